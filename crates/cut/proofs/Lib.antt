@@ -1,0 +1,4 @@
+pub mod Finds
+pub mod Selected
+pub mod Accepts
+pub mod CutOff

@@ -1,0 +1,9 @@
+pub mod Cut
+pub mod CutItem
+pub mod CutLexer
+pub mod Nodes
+pub mod Lockstep
+pub mod Nested
+pub mod Tree
+pub mod Soundness
+pub mod Tables

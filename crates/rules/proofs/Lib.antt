@@ -1,0 +1,11 @@
+pub mod Pick
+pub mod Runs
+pub mod Places
+pub mod Names
+pub mod Table
+pub mod Sound
+pub mod Nest
+pub mod Lookup
+pub mod Lists
+pub mod Text
+pub mod Examples

@@ -1,0 +1,84 @@
+-- The value that an attribute lookup answers lies within the page.
+use mathlib.Core.Bool.{Bool, true, false}
+use mathlib.Core.List.{List, [], _∷_}
+use Prim.Native.Nat.{ℕ, zero, suc, _≤_}
+use native.Mathlib.Omega.{arith}
+use lib.ListN.{length, getD}
+use Rattle.rules.specs.Bytes.{isIdent, isQuote, other, is}
+use Rattle.rules.specs.Scan.{pick, skip, here, pass}
+use Rattle.rules.specs.Attributes.{inValue, quotedEnd, valueEnd, valueAt, valueOf, attributeAt, attributeNext, notClosing}
+use Rattle.rules.specs.Lookup.{heldAs, attributes, named, firstOf, lastOf, isLast, lookupFrom}
+use Rattle.rules.specs.declared.Attribute.{Attribute}
+use Rattle.rules.specs.declared.Held.{Held}
+use Rattle.rules.specs.declared.Held.the-variants.{Absent, Bare, Value}
+use Rattle.rules.specs.declared.Value.{Value as Assigned}
+use Rattle.rules.specs.declared.Value.the-variants.{Missing, Given}
+use Rattle.rules.proofs.Pick.{cases}
+use Rattle.rules.proofs.Runs.{skip-ge, skip-le}
+
+-- a value's places, in order, in a page of n bytes
+abbrev pub Inside : ℕ → Held → Type 0
+Inside n Absent = Unit {0}
+Inside n Bare = Unit {0}
+Inside n (Value a e) = (a ≤ e) × (e ≤ n)
+
+pub inside-more : (m n : ℕ) (v : Held) → m ≤ n → Inside m v → Inside n v
+inside-more m n Absent l i = tt
+inside-more m n Bare l i = tt
+inside-more m n (Value a e) l i = (i .0, omega (arith, i .1))
+
+abbrev InsideAssigned : ℕ → Assigned → Type 0
+InsideAssigned n Missing = Unit {0}
+InsideAssigned n (Given a e) = (a ≤ e) × (e ≤ n)
+
+held-inside : (n : ℕ) (r : Held) (v : Assigned) → Inside n r → InsideAssigned n v → Inside n (heldAs r v)
+held-inside n r Missing i j = i
+held-inside n r (Given a e) i j = j
+
+module _ (white : ℕ → Bool) (p : List ℕ) where
+  -- a run from within the page
+  run : (P : ℕ → Bool) (a : ℕ) → a ≤ length p → (a ≤ skip P p a) × (skip P p a ≤ length p)
+  run P a l = (skip-ge P p a, skip-le P p a l)
+
+  -- b says whether a quote stands at v
+  given-inside : (b : Bool) (v q : ℕ) → v ≤ length p
+      → InsideAssigned (length p) (Given (pick b (pass p v) v) (pick b (skip (other q) p (pass p v)) (skip (inValue white) p v)))
+  given-inside true v q l = run (other q) (pass p v) (omega arith)
+  given-inside false v q l = run (inValue white) v l
+
+  value-inside : (w : ℕ) → InsideAssigned (length p) (valueOf white p w)
+  value-inside w =
+      let v : ℕ = valueAt white p w in
+      cases (InsideAssigned (length p)) (here (is 61) p w)
+      (λ t. given-inside (here isQuote p v) v (getD p v 0) (run white (pass p w) (omega arith) .1)) (λ t. tt)
+
+  -- each attribute's value, so what any of them answers
+  abbrev AllInside : List Attribute → Type 0
+  AllInside [] = Unit {0}
+  AllInside (a ∷ rest) = InsideAssigned (length p) (a .value) × AllInside rest
+
+  attributes-inside : (k at : ℕ) → AllInside (attributes white p k at)
+  unfolding attributes attributeAt
+  attributes-inside zero at = tt
+  attributes-inside (suc k) at =
+      let s : ℕ = skip white p at in
+      cases AllInside (here notClosing p s) (λ t. (value-inside (skip white p (skip isIdent p s)), attributes-inside k (attributeNext white p s))) (λ t. tt)
+
+  first-inside : (k : List ℕ) (xs : List Attribute) → AllInside xs → Inside (length p) (firstOf white p k xs)
+  unfolding firstOf
+  first-inside k [] i = tt
+  first-inside k (a ∷ rest) i =
+      cases (Inside (length p)) (named white p k a) (λ t. held-inside (length p) Bare (a .value) tt (i .0)) (λ t. first-inside k rest (i .1))
+
+  last-inside : (k : List ℕ) (r : Held) (xs : List Attribute) → Inside (length p) r → AllInside xs → Inside (length p) (lastOf white p k r xs)
+  unfolding lastOf
+  last-inside k r [] i j = i
+  last-inside k r (a ∷ rest) i j =
+      last-inside k (pick (named white p k a) (heldAs Absent (a .value)) r) rest
+      (cases (Inside (length p)) (named white p k a) (λ t. held-inside (length p) Absent (a .value) tt (j .0)) (λ t. i)) (j .1)
+
+  pub lookup-inside : (at : ℕ) (k : List ℕ) → Inside (length p) (lookupFrom white p at k)
+  unfolding lookupFrom
+  lookup-inside at k =
+      let all : AllInside (attributes white p (length p) at) = attributes-inside (length p) at in
+      cases (Inside (length p)) (isLast k) (λ t. last-inside k Absent (attributes white p (length p) at) tt all) (λ t. first-inside k (attributes white p (length p) at) all)
