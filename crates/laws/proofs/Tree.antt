@@ -156,8 +156,8 @@ shape-close ns h hs e S =
     lasts d (yes q) = rw (q, eq-eqb h h refl, mem-not ns h hs h (S .chain .2) (omega arith), getD-set-same ns h y noNode (S .chain .0))
     lasts d (no q) = rw (ne-eqb d h q, getD-set-other ns h d y noNode q, length-set ns h y)
 
--- the open tags get their last descendant
-last-length : (l : ℕ) (hs : List ℕ) (ns : List Node) → length (withLast l hs ns) ≡ length ns
+-- the open tags get their last descendant; no node is added
+pub last-length : (l : ℕ) (hs : List ℕ) (ns : List Node) → length (withLast l hs ns) ≡ length ns
 unfolding withLast
 last-length l [] ns = refl
 last-length l (h ∷ hs) ns = last-length l hs (set ns h (closed (node ns h) (node ns h .end) l)) ∙ length-set ns h (closed (node ns h) (node ns h .end) l)

@@ -1,24 +1,24 @@
 -- Reading a page from its beginning: its open tags settled, its header written, and the cases of the answer.
 use mathlib.Core.Path.{_≡_, refl, subst, sym, ap, _∙_}
 use mathlib.Core.Bool.{Bool, true, false}
-use mathlib.Core.List.{List, [], _∷_, _++_}
+use mathlib.Core.List.{List, _++_}
 use Prim.Native.Nat.{ℕ, _≤_, _<_, pred}
 use native.Mathlib.Omega.{arith}
 use borrow.Author.Tests.{lt-ltb, le-ltb}
-use lib.ListN.{length, set, take, drop, length-set}
+use lib.ListN.{length, take, drop}
 use Rattle.rules.specs.Bytes.{isWhite}
 use Rattle.rules.specs.Names.{isVoid}
-use Rattle.rules.specs.Reader.{Reading, node, closed, begin, steps, withLast, finished, read}
+use Rattle.rules.specs.Reader.{Reading, begin, steps, finished, read}
 use Rattle.rules.specs.Table.{headWords, rowAt, headOf, filled}
 use Rattle.rules.specs.Refusals.{pageLimit}
 use Rattle.rules.specs.Answers.{parseAnswer, parsedTable, parseTable}
 use Rattle.rules.specs.declared.Refusal.the-variants.{PageTooLong, TableTooSmall}
 use Rattle.rules.specs.declared.Counted.{Counted}
 use Rattle.rules.specs.declared.Counted.the-variants.{Count}
-use Rattle.rules.specs.declared.Node.{Node}
 use Rattle.rules.specs.declared.State.{State}
 use Rattle.rules.specs.declared.Progress.{Progress}
 use Rattle.rules.proofs.Table.{filled-none, filled-head}
+use Rattle.laws.proofs.Tree.{last-length}
 use Rattle.tree.specs.Held.{Held, Settled}
 use Rattle.parser.specs.Parsing.{Reads, Run, Holds, Finished, Refuses, Parses}
 use Rattle.parser.proofs.Readings.{good-begin, good-steps}
@@ -49,16 +49,11 @@ held-end {t = t} {hd = hd} {R = R} {s = s} H last len e S w =
 abbrev readBy : (ℕ → Bool) → List ℕ → Reading
 readBy white p = steps white isVoid p (length p) begin
 
-length-last : (l : ℕ) (hs : List ℕ) (ns : List Node) → length (withLast l hs ns) ≡ length ns
-unfolding withLast
-length-last l [] ns = refl
-length-last l (h ∷ hs) ns = length-last l hs (set ns h (closed (node ns h) (node ns h .end) l)) ∙ simp length-set
-
 abbrev countBy : (ℕ → Bool) → List ℕ → ℕ
 countBy white p = length (read white isVoid p .nodes)
 
 count-same : (white : ℕ → Bool) (p : List ℕ) → countBy white p ≡ length (readBy white p .nodes)
-count-same white p = let R : Reading = readBy white p in length-last _ (R .opens) (R .nodes)
+count-same white p = let R : Reading = readBy white p in last-length _ (R .opens) (R .nodes)
 
 module _ {white : ℕ → Bool} {p t t₂ : List ℕ} {r : Counted} where
   answers : {A : Counted} → r ≡ A → parseAnswer white isVoid p (length t) ≡ A → t₂ ≡ parsedTable white isVoid p t A → Parses white isVoid p t t₂ r
