@@ -6,6 +6,7 @@ pub mod Table
 pub mod Sound
 pub mod Nest
 pub mod Lookup
+pub mod Asking
 pub mod Lists
 pub mod Text
 pub mod Examples

@@ -151,6 +151,12 @@ pub enum Refusal {
     BufferTooShort,
 }
 
+// Whether a question may be asked, or why it is refused.
+pub enum Checked {
+    Fine,
+    Refused(Refusal),
+}
+
 // A count: of nodes read, of bytes or handles written, of a selector's pieces.
 pub enum Counted {
     Count(usize),
