@@ -8,5 +8,6 @@ pub mod Nest
 pub mod Lookup
 pub mod Asking
 pub mod Lists
+pub mod Buffers
 pub mod Text
 pub mod Examples

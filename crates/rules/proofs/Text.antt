@@ -12,13 +12,54 @@ use borrow.Author.Tests.{eq-eqb, ne-eqb, eqb-true, eqb-false}
 use Rattle.rules.specs.Scan.{pick}
 use Rattle.rules.specs.Lists.{from, only, each}
 use Rattle.rules.specs.Table.{nodeAt}
-use Rattle.rules.specs.Sound.{reaching, lastAt, parentAt, tagged, countOf, sound}
+use Rattle.rules.specs.Sound.{lastAt, parentAt, tagged, countOf, sound}
 use Rattle.rules.specs.Facts.{SoundRow}
 use Rattle.rules.specs.Text.{below, textAt, innerText, isChild, children, descent, byChild}
 use Rattle.rules.proofs.Lists.{from-append, each-append, only-append, only-none}
 use Rattle.rules.proofs.Sound.{reaching-le, sound-rows}
 use Rattle.rules.proofs.Nest.{reaching-at, reaching-above, sound-nests}
 
+-- the rows of h from k on, and their text
+abbrev pub rowsFrom : List ℕ → ℕ → ℕ → List ℕ
+rowsFrom ws h k = from k (suc (lastAt ws h) - k)
+
+abbrev pub textFrom : List ℕ → List ℕ → ℕ → ℕ → List ℕ
+textFrom p ws h k = each (textAt p ws) (rowsFrom ws h k)
+
+-- ---- the rows of h, cut at k: what holds of any words
+module _ (p ws : List ℕ) (h : ℕ) where
+  pub text-all : textFrom p ws h (suc h) ≡ innerText p ws h
+  text-all = let z : suc (lastAt ws h) - suc h ≡ lastAt ws h - h = omega arith in rw z
+
+  rows-none : (k : ℕ) → lastAt ws h < k → rowsFrom ws h k ≡ []
+  unfolding from
+  rows-none k l = let z : suc (lastAt ws h) - k ≡ 0 = omega arith in rw z
+
+  pub text-none : (k : ℕ) → lastAt ws h < k → textFrom p ws h k ≡ []
+  unfolding each
+  text-none k l = rw (rows-none k l)
+
+  -- k and those after it
+  pub text-next : (k : ℕ) → k ≤ lastAt ws h → textFrom p ws h k ≡ textAt p ws k ++ textFrom p ws h (suc k)
+  unfolding from each
+  text-next k l = let m : suc (lastAt ws h) - k ≡ suc (suc (lastAt ws h) - suc k) = omega arith in rw m
+
+  -- k, those below it, and those from the row after its last on
+  rows-cut : (k : ℕ) → k ≤ lastAt ws k → lastAt ws k ≤ lastAt ws h → rowsFrom ws h k ≡ k ∷ (below ws k ++ rowsFrom ws h (suc (lastAt ws k)))
+  unfolding from
+  rows-cut k a b =
+      let m : suc (lastAt ws h) - k ≡ suc ((lastAt ws k - k) + (suc (lastAt ws h) - suc (lastAt ws k))) = omega arith in
+      let n : suc k + (lastAt ws k - k) ≡ suc (lastAt ws k) = omega arith in
+      rw (m, from-append (suc k) (lastAt ws k - k) (suc (lastAt ws h) - suc (lastAt ws k)), n)
+
+  text-cut : (k : ℕ) → k ≤ lastAt ws k → lastAt ws k ≤ lastAt ws h
+      → textFrom p ws h k ≡ (textAt p ws k ++ innerText p ws k) ++ textFrom p ws h (suc (lastAt ws k))
+  unfolding each
+  text-cut k a b =
+      rw (rows-cut k a b, each-append (textAt p ws) (below ws k) (rowsFrom ws h (suc (lastAt ws k))))
+      (sym (append-assoc (textAt p ws k) (innerText p ws k) (textFrom p ws h (suc (lastAt ws k)))))
+
+-- ---- a sound table
 module _ (len : ℕ) (p ws : List ℕ) (e : sound len ws ≡ true) where
   abbrev count : ℕ
   count = countOf ws
@@ -77,41 +118,26 @@ module _ (len : ℕ) (p ws : List ℕ) (e : sound len ws ≡ true) where
 
   -- The rows of h from its child k on. F is what a child gives: its own text, and what lies below it.
   module _ (F : ℕ → List ℕ) (h : ℕ) (hl : h < count)
-      (gives : (k : ℕ) → h < k → k ≤ last h → F k ≡ textAt p ws k ++ each (textAt p ws) (below ws k)) where
-    abbrev rest : ℕ → List ℕ
-    rest k = from k (suc (last h) - k)
-
+      (gives : (k : ℕ) → h < k → k ≤ last h → F k ≡ textAt p ws k ++ innerText p ws k) where
     abbrev Same : ℕ → Type 0
-    Same k = each F (only (isChild ws h) (rest k)) ≡ each (textAt p ws) (rest k)
+    Same k = each F (only (isChild ws h) (rowsFrom ws h k)) ≡ textFrom p ws h k
 
-    rest-none : (k : ℕ) → suc (last h) ≤ k → Same k
-    unfolding from only each
-    rest-none k l = let z : suc (last h) - k ≡ 0 = omega arith in rw z
-
-    -- the rows from k on: k, those below it, and those from the row after its last on
-    rest-cut : (k : ℕ) → k ≤ last k → last k ≤ last h → rest k ≡ k ∷ (below ws k ++ rest (suc (last k)))
-    unfolding from
-    rest-cut k a b =
-        let m : suc (last h) - k ≡ suc ((last k - k) + (suc (last h) - suc (last k))) = omega arith in
-        let n : suc k + (last k - k) ≡ suc (last k) = omega arith in
-        rw (m, from-append (suc k) (last k - k) (suc (last h) - suc (last k)), n)
+    rest-none : (k : ℕ) → last h < k → Same k
+    unfolding only each
+    rest-none k l = rw (rows-none p ws h k l)
 
     one-child : (k : ℕ) → h < k → k ≤ last h → Free h k → Same (suc (last k)) → Same k
     unfolding only each
     one-child k a b free ih =
         let l : k < count = omega (arith, row h hl .last-high) in
         let s = row k l in
-        let inner : only (isChild ws h) (below ws k) ≡ [] = only-none (isChild ws h) (suc k) (last k - k) (λ m c d. deeper h k m (omega (arith, s .last-high)) a c (omega (arith, s .last-low))) in
-        rw (
-          rest-cut k (s .last-low) (sound-nests len ws e k h l a b),
-          free-child h k l a b free,
-          only-append (isChild ws h) (below ws k) (rest (suc (last k))),
-          inner,
-          each-append (textAt p ws) (below ws k) (rest (suc (last k))),
-          ih,
-          gives k a b,
-        )
-        (append-assoc (textAt p ws k) (each (textAt p ws) (below ws k)) (each (textAt p ws) (rest (suc (last k)))))
+        let w : last k ≤ last h = sound-nests len ws e k h l a b in
+        let rest = rowsFrom ws h (suc (last k)) in
+        let none : (m : ℕ) → suc k ≤ m → m < suc k + (last k - k) → isChild ws h m ≡ false =
+        λ m c d. deeper h k m (omega (arith, s .last-high)) a c (omega (arith, s .last-low)) in
+        let inner : only (isChild ws h) (below ws k) ≡ [] = only-none (isChild ws h) (suc k) (last k - k) none in
+        sym (text-cut p ws h k (s .last-low) w
+        ∙ rw (rows-cut p ws h k (s .last-low) w, free-child h k l a b free, only-append (isChild ws h) (below ws k) rest, inner, gives k a b, ih))
 
     siblings : (n k : ℕ) → suc (last h) ≤ k + n → h < k → Free h k → Same k
     siblings zero k l a free = rest-none k (omega arith)
@@ -147,6 +173,26 @@ module _ (len : ℕ) (p ws : List ℕ) (e : sound len ws ≡ true) where
         let z : suc (last h) - suc h ≡ last h - h = omega arith in
         ap (each F) children-below ∙ (rw z at (siblings (suc (last h)) (suc h) (omega arith) (omega arith) (λ j a b. absurd (omega arith))))
 
+  -- a tag has no bytes of its own, and nothing lies below another node
+  own-below : (k : ℕ) → k < count → (t : Bool) → tagged (nodeAt ws k) ≡ t
+      → textAt p ws k ++ innerText p ws k ≡ pick t (innerText p ws k) (textAt p ws k)
+  unfolding from each
+  own-below k c true t =
+      let two : nodeAt ws k .kind ≡ 2 → ⊥ = λ q. omega (arith, eqb-true (nodeAt ws k .kind) 1 t) in
+      rw (ne-eqb (nodeAt ws k .kind) 2 two)
+  own-below k c false t =
+      let z : last k ≡ k = row k c .leaf (eqb-false (nodeAt ws k .kind) 1 t) in
+      let y : last k - k ≡ 0 = omega arith in
+      rw y (append-nil (textAt p ws k))
+
+  -- the rows of h from its child k on: what k gives, and those from the row after its last on
+  pub text-child : (h k : ℕ) → h < count → h < k → k ≤ last h
+      → textFrom p ws h k ≡ pick (tagged (nodeAt ws k)) (innerText p ws k) (textAt p ws k) ++ textFrom p ws h (suc (last k))
+  text-child h k hl a b =
+      let l : k < count = omega (arith, row h hl .last-high) in
+      text-cut p ws h k (row k l .last-low) (sound-nests len ws e k h l a b)
+      ∙ ap (λ (x : List ℕ). x ++ textFrom p ws h (suc (last k))) (own-below k l (tagged (nodeAt ws k)) refl)
+
   -- to a depth that the range allows
   pub descent-flat : (n h : ℕ) → h < count → last h - h ≤ n → descent p ws n h ≡ innerText p ws h
   unfolding descent each from
@@ -155,17 +201,9 @@ module _ (len : ℕ) (p ws : List ℕ) (e : sound len ws ≡ true) where
       all-children (λ k. pick (tagged (nodeAt ws k)) (descent p ws n k) (textAt p ws k)) h l
       (λ k a b.
       let c : k < count = omega (arith, row h l .last-high) in
-      let s = row k c in
       let w : last k ≤ last h = sound-nests len ws e k h c a b in
-      gives k c (descent-flat n k c (omega (arith, s .last-low))) (tagged (nodeAt ws k)) refl)
-    where
-      gives : (k : ℕ) → k < count → descent p ws n k ≡ innerText p ws k → (t : Bool) → tagged (nodeAt ws k) ≡ t
-          → pick t (descent p ws n k) (textAt p ws k) ≡ textAt p ws k ++ each (textAt p ws) (below ws k)
-      gives k c ih true t = ih ∙ rw (ne-eqb (nodeAt ws k .kind) 2 (λ (q : nodeAt ws k .kind ≡ 2). let z = eqb-true (nodeAt ws k .kind) 1 t in omega arith))
-      gives k c ih false t =
-          let z : last k ≡ k = row k c .leaf (eqb-false (nodeAt ws k .kind) 1 t) in
-          let y : last k - k ≡ 0 = omega arith in
-          rw y (sym (append-nil (textAt p ws k)))
+      let deep : descent p ws n k ≡ innerText p ws k = descent-flat n k c (omega (arith, row k c .last-low)) in
+      rw deep (sym (own-below k c (tagged (nodeAt ws k)) refl)))
 
   -- the two inner texts are equal
   pub inner-text : (h : ℕ) → h < count → byChild p ws h ≡ innerText p ws h

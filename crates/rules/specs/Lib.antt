@@ -2,6 +2,7 @@ pub mod Ascii
 pub mod Bytes
 pub mod Scan
 pub mod Lists
+pub mod Buffers
 pub mod Places
 pub mod Attributes
 pub mod Names

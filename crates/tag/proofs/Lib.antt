@@ -1,0 +1,4 @@
+pub mod Fuel
+pub mod Turns
+pub mod Looks
+pub mod Texts
