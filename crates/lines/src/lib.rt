@@ -156,22 +156,12 @@ fn put_refused(out: &mut [u8], number: u32) -> usize
 
 // ---- the whole text, or a refusal for lack of room
 
-fn clear(out: &mut [u8])
-    ensures { λ _. ⌜ now (out .exit) ≡ replicate (length (now (out .entry))) 0 ⌝ }
-{
-    let mut i = 0;
-    while i < out.len() {
-        out[i] = 0;
-        i += 1;
-    }
-}
-
 // What was written up to a place is counted, or cleared where it found no room.
 fn finish(out: &mut [u8], at: usize) -> Counted
     ensures { λ r. ⌜ Ends (now (out .entry)) at (now (out .exit)) r ⌝ }
 {
     if out.len() < at {
-        clear(out);
+        table::clear_bytes(out);
         return Counted::Refused(Refusal::BufferTooShort);
     }
     Counted::Count(at)

@@ -117,3 +117,14 @@ pub fn clear(table: &mut [u32])
         i += 1;
     }
 }
+
+// Sets all bytes to zero, as a refusal leaves a buffer of bytes.
+pub fn clear_bytes(out: &mut [u8])
+    ensures { λ _. ⌜ now (out .exit) ≡ replicate (length (now (out .entry))) 0 ⌝ }
+{
+    let mut i = 0;
+    while i < out.len() {
+        out[i] = 0;
+        i += 1;
+    }
+}

@@ -9,7 +9,7 @@ use Rattle.lines.proofs.finish.Tie as tie
 returns : tie.Need-returns
 returns c =
     let a = c .before .before .before .before .before .before .args in
-    record { answer = rw (lt-ltb (length (a .out .now)) (a .at) (c .before .before .before .before .if1 .taken)); bytes = c .before .before .clear .ensures }
+    record { answer = rw (lt-ltb (length (a .out .now)) (a .at) (c .before .before .before .before .if1 .taken)); bytes = c .before .before .clear-bytes .ensures }
 
 returns-2 : tie.Need-returns-2
 returns-2 c =

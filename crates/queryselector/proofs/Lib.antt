@@ -1,0 +1,5 @@
+pub mod Steps
+pub mod Written
+pub mod Returns
+pub mod Public
+mod Streams
