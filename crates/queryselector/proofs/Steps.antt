@@ -22,7 +22,8 @@ use Rattle.rules.specs.declared.Read.{Read}
 use Rattle.rules.specs.declared.Read.the-variants.{Found, NotFound}
 use Rattle.rules.proofs.Runs.{skip-ge}
 use Rattle.rules.proofs.Places.{Read as ReadAt}
-use Rattle.selector.proofs.Ahead.{pick-all, Ahead, simple-ahead}
+use Rattle.rules.proofs.Pick.{cases}
+use Rattle.selector.proofs.Ahead.{Ahead, simple-ahead}
 use Rattle.queryselector.specs.Chains.{joinBy}
 
 -- ---- the joiner
@@ -33,8 +34,8 @@ After m j = (m ≤ j .next) × (j .next ≤ m + 1)
 
 join-after : (s : List ℕ) (k m : ℕ) → After m (joinAt s k m)
 join-after s k m =
-    pick-all (After m) (here (is 44) s m) (λ _. omega arith)
-    (λ _. pick-all (After m) (here (is 62) s m) (λ _. omega arith) (λ _. omega arith))
+    cases (After m) (here (is 44) s m) (λ _. omega arith)
+    (λ _. cases (After m) (here (is 62) s m) (λ _. omega arith) (λ _. omega arith))
 
 join-byte : (s : List ℕ) (k m b : ℕ) → ReadAt s m b → joinAt s k m ≡ joinBy b k m
 join-byte s k m b R = rw (R .tests (is 44), R .tests (is 62), add-one)
@@ -120,7 +121,7 @@ short (suc n) s i = go (λ m. short n s m) (simpleAt s (spacesEnd s i))
     go : ((m : ℕ) → Short n (selectorAt n s m)) → (r : Read) → Short (suc n) (selectorOf (selectorAt n s) s r)
     go f (Found x k) =
         let j : Join = joinAt s k (spacesEnd s k) in
-        pick-all (Short (suc n)) (ltb (spacesEnd s k) (length s))
+        cases (Short (suc n)) (ltb (spacesEnd s k) (length s))
         (λ _. short-before n (piece x (j .joiner)) (selectorAt n s (j .next)) (f (j .next))) (λ _. omega arith)
     go f NotFound = tt
 

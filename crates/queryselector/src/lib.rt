@@ -134,11 +134,7 @@ pub fn parse_selector(t: &[u8; 256], s: &[u8], out: &mut [u32]) -> Chain
 fn refuse(out: &mut [u32], why: Refusal) -> Counted
     ensures { λ r. ⌜ (r ≡ Counted.Refused why) × (now (out .exit) ≡ replicate (length (now (out .entry))) 0) ⌝ }
 {
-    let mut i = 0;
-    while i < out.len() {
-        out[i] = 0;
-        i += 1;
-    }
+    table::clear(out);
     Counted::Refused(why)
 }
 
