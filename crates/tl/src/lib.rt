@@ -1,4 +1,5 @@
 // The public calls: each answers for every page, table, handle, name and buffer, and refuses in the order of the numbers.
+use queryselector::Chain;
 use rules::Asked;
 use rules::Checked;
 use rules::Counted;
@@ -14,8 +15,8 @@ ghost use Rattle.rules.specs.Refusals.{asking, askingTag, heldPart};
 ghost use Rattle.rules.proofs.Lookup.{Inside};
 ghost use Rattle.rules.specs.Sound.{countOf, sound};
 ghost use Rattle.rules.specs.Text.{innerText};
-ghost use Rattle.rules.specs.Answers.{rangeAnswer, textAnswer, textBuffer, attributeAnswer, attributePart};
-ghost use Rattle.tl.specs.Calls.{Filled, Writes, isTag};
+ghost use Rattle.rules.specs.Answers.{rangeAnswer, textAnswer, textBuffer, attributeAnswer, attributePart, queryAnswer, queryBuffer, queryBelowAnswer, queryBelowBuffer};
+ghost use Rattle.tl.specs.Calls.{Filled, Writes, Refuses, Selects, InScope, scoped, isTag};
 
 // How deep `inner_text` descends by recursion before a flat walk goes on.
 const DEPTH: usize = 64;
@@ -146,5 +147,80 @@ pub fn inner_text(page: &[u8], table: &[u32], h: usize, out: &mut [u8]) -> Count
             Counted::Refused(why)
         }
         Checked::Fine => write_text(page, table, h, out),
+    }
+}
+
+// ---- queries
+
+// Where a query looks: over the page, or below a tag.
+enum Scope {
+    Page,
+    Below(usize),
+}
+
+// A refusal leaves the words all zero.
+fn refuse(out: &mut [u32], why: Refusal) -> Counted
+    ensures { λ r. ⌜ Refuses (now (out .entry)) why r (now (out .exit)) ⌝ }
+{
+    table::clear(out);
+    Counted::Refused(why)
+}
+
+// The finds of a selector, or refusals 5, 6 and 7.
+fn select(page: &[u8], table: &[u32], scope: Scope, s: &[u8], out: &mut [u32]) -> Counted
+    requires { ⌜ (sound (length (now page)) (now table) ≡ true) × InScope (now table) scope ⌝ }
+    ensures { λ r. ⌜
+        (let finds = scoped (now (page .entry)) (now (table .entry)) (now (s .entry)) scope in
+        Selects finds (now (s .entry)) (now (out .entry)) r (now (out .exit)))
+        ⌝ }
+{
+    if queryselector::LIMIT < s.len() {
+        return refuse(out, Refusal::SelectorTooLong);
+    }
+    let t = scan::mark_table();
+    let mut words = [0u32; queryselector::ROOM];
+    let Chain::Pieces(n) = queryselector::parse_selector(&t, s, &mut words) else {
+        return refuse(out, Refusal::SelectorNotRead);
+    };
+    match scope {
+        Scope::Page => vdom::query(&t, page, table, s, &words, n, out),
+        Scope::Below(h) => vdom::query_below(&t, page, table, h, s, &words, n, out),
+    }
+}
+
+// The nodes of the page that a selector finds, in handle order.
+pub fn query_selector(page: &[u8], table: &[u32], s: &[u8], out: &mut [u32]) -> Counted
+    ensures { λ r. ⌜
+        (let p = now (page .entry) in
+        let ws = now (table .entry) in
+        let b = now (out .entry) in
+        Filled (queryAnswer isWhite p ws (now (s .entry)) (length b)) (queryBuffer isWhite p ws (now (s .entry)) b) r (now (out .exit)))
+        ⌝ }
+{
+    match check(page, table) {
+        Checked::Refused(why) => refuse(out, why),
+        Checked::Fine => select(page, table, Scope::Page, s, out),
+    }
+}
+
+// The nodes below a tag that a selector finds, in handle order.
+pub fn query_selector_below(
+    page: &[u8],
+    table: &[u32],
+    h: usize,
+    s: &[u8],
+    out: &mut [u32],
+) -> Counted
+    ensures { λ r. ⌜
+        (let p = now (page .entry) in
+        let ws = now (table .entry) in
+        let b = now (out .entry) in
+        let k = now (s .entry) in
+        Filled (queryBelowAnswer isWhite p ws h k (length b)) (queryBelowBuffer isWhite p ws h k b) r (now (out .exit)))
+        ⌝ }
+{
+    match check_tag(page, table, h) {
+        Checked::Refused(why) => refuse(out, why),
+        Checked::Fine => select(page, table, Scope::Below(h), s, out),
     }
 }

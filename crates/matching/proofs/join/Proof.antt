@@ -1,0 +1,34 @@
+-- `matching::join` meets its contract: where the rest decides, the definition gives the same whatever the piece is.
+use borrow.Author.Needs.{needs}
+use mathlib.Core.Path.{_∙_}
+use mathlib.Core.Bool.{and-true, and-false, or-true, or-false}
+use Rattle.matching.proofs.join.Statement.{statement}
+use Rattle.matching.proofs.join.Tie as tie
+
+returns : tie.Need-returns
+returns c = rw (c .before .enum-told .given .1) (c .fits2 .ensures)
+
+returns-2 : tie.Need-returns-2
+returns-2 c = c .fits3 .ensures ∙ rw (c .before .before .enum-told2 .given .1, c .before .if1 .taken, and-true)
+
+returns-3 : tie.Need-returns-3
+returns-3 c = rw (c .before .enum-told2 .given .1, c .if1 .left, and-false)
+
+returns-4 : tie.Need-returns-4
+returns-4 c = rw (c .before .enum-told3 .given .1, c .if2 .taken, or-true)
+
+returns-5 : tie.Need-returns-5
+returns-5 c = c .fits4 .ensures ∙ rw (c .before .before .enum-told3 .given .1, c .before .if2 .left, or-false)
+
+returns-6 : tie.Need-returns-6
+returns-6 c = rw (c .enum-told4 .given .1)
+
+returns-7 : tie.Need-returns-7
+returns-7 c = rw (c .enum-told5 .given .1)
+
+pub join-spec : {M : Type 1} → statement M
+join-spec =
+    tie.close
+    (tie.spec (λ c. search needs) (λ c κs. search needs) (λ c. search needs) (λ c κs. search needs) (λ c. search needs)
+    (λ c κs. search needs) (λ c. search needs) (λ c. search needs) returns returns-2 returns-3 returns-4 returns-5
+    returns-6 returns-7)

@@ -1,0 +1,262 @@
+// Does a node match a selector (queryselector/selector.rs): one simple selector, and a chain of pieces. `t` is the lent table
+// of marks, `page` the page, `s` the selector's bytes.
+use rules::Held;
+use rules::Joiner;
+use rules::Node;
+use rules::Piece;
+use rules::Simple;
+use rules::Span;
+ghost use mathlib.Core.Path.{_≡_};
+ghost use Prim.Native.Nat.{_*_, _≤_, _<_, min};
+ghost use lib.ListN.{length};
+ghost use Rattle.rules.specs.Scan.{part as partOf};
+ghost use Rattle.rules.specs.Lookup.{answer};
+ghost use Rattle.rules.specs.Finds.{valued, heldTimes, nodeHasId, nodeClassTimes};
+ghost use Rattle.rules.specs.Query.{nameOf, textOf, present, tagFits, otherFits, nodeFits, joined, meaning};
+ghost use Rattle.scan.specs.Marks.{Marked, whiteIn};
+ghost use Rattle.piece.specs.Words.{pieceWords, piecesFrom};
+ghost use Rattle.matching.specs.Matching.{compared, Placed};
+
+// ---- parts of the page and of the selector
+
+fn least(a: usize, b: usize) -> usize
+    ensures { λ r. ⌜ r ≡ min a b ⌝ }
+{
+    if a < b { a } else { b }
+}
+
+// The bytes from a up to e. Places past the end count as the end, so that it can be asked for any places.
+pub fn part(s: &[u8], a: usize, e: usize) -> &[u8]
+    ensures { λ r. ⌜ now r ≡ partOf (now (s .entry)) a e ⌝ }
+{
+    let end = least(e, s.len());
+    if end <= a {
+        return &s[0..0];
+    }
+    &s[a..end]
+}
+
+// The bytes of a name in the selector.
+fn text(s: &[u8], a: Span) -> &[u8]
+    ensures { λ r. ⌜ now r ≡ textOf (now (s .entry)) a ⌝ }
+{
+    let start = a.start as usize;
+    let end = a.end as usize;
+    part(s, start, end)
+}
+
+// A tag's name.
+fn name(page: &[u8], n: Node) -> &[u8]
+    ensures { λ r. ⌜ now r ≡ nameOf (now (page .entry)) n ⌝ }
+{
+    let start = n.name as usize;
+    let end = n.stop as usize;
+    part(page, start, end)
+}
+
+// ---- one attribute of a tag
+
+// How a value v is compared with a text k: v is k, has the word k, begins with it, ends in it, holds it. Class values are cut
+// into words at ASCII white, those of `~=` at Unicode white.
+enum Compare {
+    Equal,
+    ClassWord,
+    Word,
+    StartsWith,
+    EndsWith,
+    Substring,
+}
+
+fn value_fits(v: &[u8], k: &[u8], how: Compare) -> bool
+    ensures { λ r. ⌜ r ≡ compared how (now (k .entry)) (now (v .entry)) ⌝ }
+{
+    match how {
+        Compare::Equal => constants::is_same(v, k),
+        Compare::ClassWord => words::has_word(v, k, false),
+        Compare::Word => words::has_word(v, k, true),
+        Compare::StartsWith => words::starts_with(v, k),
+        Compare::EndsWith => words::ends_with(v, k),
+        Compare::Substring => words::contains(v, k),
+    }
+}
+
+// The attribute has a value, and that fits.
+fn check_attribute(t: &[u8; 256], page: &[u8], n: Node, name: &[u8], k: &[u8], how: Compare) -> bool
+    requires { ⌜ Marked (now t) × (n .stop < n .opened) × (n .opened ≤ length (now page)) ⌝ }
+    ensures { λ r. ⌜ r ≡ valued (compared how (now (k .entry))) (answer (whiteIn (now (t .entry))) (now (page .entry)) n (now (name .entry))) ⌝ }
+{
+    let held = tag::attribute(t, page, n, name);
+    match held {
+        Held::Absent => false,
+        Held::Bare => false,
+        Held::Value(a, e) => value_fits(part(page, a, e), k, how),
+    }
+}
+
+fn has_attribute(t: &[u8; 256], page: &[u8], n: Node, name: &[u8]) -> bool
+    requires { ⌜ Marked (now t) × (n .stop < n .opened) × (n .opened ≤ length (now page)) ⌝ }
+    ensures { λ r. ⌜ r ≡ present (answer (whiteIn (now (t .entry))) (now (page .entry)) n (now (name .entry))) ⌝ }
+{
+    let held = tag::attribute(t, page, n, name);
+    match held {
+        Held::Absent => false,
+        Held::Bare => true,
+        Held::Value(_, _) => true,
+    }
+}
+
+// The tag with that id.
+pub fn has_id(t: &[u8; 256], page: &[u8], n: Node, name: &[u8]) -> bool
+    requires { ⌜ Marked (now t) × Placed (now page) n ⌝ }
+    ensures { λ r. ⌜ r ≡ nodeHasId (whiteIn (now (t .entry))) (now (page .entry)) (now (name .entry)) n ⌝ }
+{
+    if n.kind != 1 {
+        return false;
+    }
+    check_attribute(t, page, n, b"id", name, Compare::Equal)
+}
+
+// How many times the class value holds the name.
+pub fn class_times(t: &[u8; 256], page: &[u8], n: Node, name: &[u8]) -> usize
+    requires { ⌜ Marked (now t) × Placed (now page) n ⌝ }
+    ensures { λ r. ⌜ r ≡ nodeClassTimes (whiteIn (now (t .entry))) (now (page .entry)) (now (name .entry)) n ⌝ }
+{
+    if n.kind != 1 {
+        return 0;
+    }
+    let held = tag::attribute(t, page, n, b"class");
+    match held {
+        Held::Absent => 0,
+        Held::Bare => 0,
+        Held::Value(a, e) => words::times(part(page, a, e), name, false),
+    }
+}
+
+// ---- one simple selector
+
+// `[a=b]` and its kin, for a tag.
+fn check_value(
+    t: &[u8; 256],
+    page: &[u8],
+    n: Node,
+    s: &[u8],
+    a: Span,
+    b: Span,
+    how: Compare,
+) -> bool
+    requires { ⌜ Marked (now t) × (n .stop < n .opened) × (n .opened ≤ length (now page)) ⌝ }
+    ensures { λ r. ⌜
+        (let ask = answer (whiteIn (now (t .entry))) (now (page .entry)) n in
+        r ≡ valued (compared how (textOf (now (s .entry)) b)) (ask (textOf (now (s .entry)) a)))
+        ⌝ }
+{
+    check_attribute(t, page, n, text(s, a), text(s, b), how)
+}
+
+// Any, for a tag.
+fn tag_fits(t: &[u8; 256], page: &[u8], n: Node, s: &[u8], x: Simple) -> bool
+    requires { ⌜ Marked (now t) × (n .stop < n .opened) × (n .opened ≤ length (now page)) ⌝ }
+    ensures { λ r. ⌜
+        (let p = now (page .entry) in
+        r ≡ tagFits (now (s .entry)) (nameOf p n) (answer (whiteIn (now (t .entry))) p n) x)
+        ⌝ }
+{
+    match x {
+        Simple::Tag(a) => constants::is_same(name(page, n), text(s, a)),
+        Simple::Id(a) => check_attribute(t, page, n, b"id", text(s, a), Compare::Equal),
+        Simple::Class(a) => check_attribute(t, page, n, b"class", text(s, a), Compare::ClassWord),
+        Simple::All => true,
+        Simple::Attribute(a) => has_attribute(t, page, n, text(s, a)),
+        Simple::AttributeValue(a, b) => check_value(t, page, n, s, a, b, Compare::Equal),
+        Simple::AttributeValueWhitespacedContains(a, b) => {
+            check_value(t, page, n, s, a, b, Compare::Word)
+        }
+        Simple::AttributeValueStartsWith(a, b) => {
+            check_value(t, page, n, s, a, b, Compare::StartsWith)
+        }
+        Simple::AttributeValueEndsWith(a, b) => {
+            check_value(t, page, n, s, a, b, Compare::EndsWith)
+        }
+        Simple::AttributeValueSubstring(a, b) => {
+            check_value(t, page, n, s, a, b, Compare::Substring)
+        }
+    }
+}
+
+// For a text or a comment: only `*` fits.
+fn is_all(x: Simple) -> bool
+    ensures { λ r. ⌜ r ≡ otherFits x ⌝ }
+{
+    match x {
+        Simple::Tag(_) => false,
+        Simple::Id(_) => false,
+        Simple::Class(_) => false,
+        Simple::All => true, // not of tags alone
+        Simple::Attribute(_) => false,
+        Simple::AttributeValue(_, _) => false,
+        Simple::AttributeValueWhitespacedContains(_, _) => false,
+        Simple::AttributeValueStartsWith(_, _) => false,
+        Simple::AttributeValueEndsWith(_, _) => false,
+        Simple::AttributeValueSubstring(_, _) => false,
+    }
+}
+
+pub fn fits(t: &[u8; 256], page: &[u8], n: Node, s: &[u8], x: Simple) -> bool
+    requires { ⌜ Marked (now t) × Placed (now page) n ⌝ }
+    ensures { λ r. ⌜ r ≡ nodeFits (whiteIn (now (t .entry))) (now (page .entry)) (now (s .entry)) n x ⌝ }
+{
+    if n.kind == 1 {
+        return tag_fits(t, page, n, s, x);
+    }
+    is_all(x)
+}
+
+// ---- a chain of pieces
+
+// A piece and the rest of its chain. Where the rest decides, the piece is not asked.
+fn join(t: &[u8; 256], page: &[u8], n: Node, s: &[u8], p: Piece, rest: bool) -> bool
+    requires { ⌜ Marked (now t) × Placed (now page) n ⌝ }
+    ensures { λ r. ⌜
+        r ≡ joined (p .joiner) (nodeFits (whiteIn (now (t .entry))) (now (page .entry)) (now (s .entry)) n (p .simple)) rest
+        ⌝ }
+{
+    let simple = p.simple;
+    let joiner = p.joiner;
+    match joiner {
+        Joiner::End => fits(t, page, n, s, simple),
+        Joiner::And => {
+            if rest {
+                fits(t, page, n, s, simple)
+            } else {
+                false
+            }
+        }
+        Joiner::Or => {
+            if rest {
+                true
+            } else {
+                fits(t, page, n, s, simple)
+            }
+        }
+        Joiner::Descendant => false,
+        Joiner::Parent => false,
+    }
+}
+
+// Selector::matches, for the chain that the words say: from the right, `left` pieces being left.
+pub fn matches(t: &[u8; 256], page: &[u8], n: Node, s: &[u8], words: &[u32], pieces: usize) -> bool
+    requires { ⌜ Marked (now t) × Placed (now page) n × (pieceWords * pieces ≤ length (now words)) ⌝ }
+    ensures { λ r. ⌜
+        (let fit = nodeFits (whiteIn (now (t .entry))) (now (page .entry)) (now (s .entry)) n in
+        r ≡ meaning fit (piecesFrom pieces (now (words .entry)) 0))
+        ⌝ }
+{
+    let mut rest = false;
+    let mut left = pieces;
+    while 0 < left {
+        let p = piece::piece_at(words, left - 1);
+        rest = join(t, page, n, s, p, rest);
+        left -= 1;
+    }
+    rest
+}
