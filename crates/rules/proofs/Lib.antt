@@ -7,7 +7,10 @@ pub mod Sound
 pub mod Nest
 pub mod Lookup
 pub mod Asking
+pub mod All
 pub mod Lists
 pub mod Buffers
 pub mod Text
+pub mod Closing
+pub mod Rounds
 pub mod Examples

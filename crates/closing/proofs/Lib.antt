@@ -1,0 +1,8 @@
+pub mod Rows
+pub mod Values
+pub mod Moves
+pub mod Cuts
+pub mod Steps
+pub mod Entries
+pub mod Turns
+pub mod Ids
