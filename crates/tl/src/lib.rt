@@ -3,7 +3,9 @@ use queryselector::Chain;
 use rules::Asked;
 use rules::Checked;
 use rules::Counted;
+use rules::Found;
 use rules::Held;
+use rules::Manner;
 use rules::Ranged;
 use rules::Refusal;
 ghost use mathlib.Core.Path.{_≡_};
@@ -15,7 +17,8 @@ ghost use Rattle.rules.specs.Refusals.{asking, askingTag, heldPart};
 ghost use Rattle.rules.proofs.Lookup.{Inside};
 ghost use Rattle.rules.specs.Sound.{countOf, sound};
 ghost use Rattle.rules.specs.Text.{innerText};
-ghost use Rattle.rules.specs.Answers.{rangeAnswer, textAnswer, textBuffer, attributeAnswer, attributePart, queryAnswer, queryBuffer, queryBelowAnswer, queryBelowBuffer};
+ghost use Rattle.rules.specs.Finds.{byClass};
+ghost use Rattle.rules.specs.Answers.{rangeAnswer, textAnswer, textBuffer, attributeAnswer, attributePart, idAnswer, classAnswer, classBuffer, queryAnswer, queryBuffer, queryBelowAnswer, queryBelowBuffer};
 ghost use Rattle.tl.specs.Calls.{Filled, Writes, Refuses, Selects, InScope, scoped, isTag};
 
 // How deep `inner_text` descends by recursion before a flat walk goes on.
@@ -147,6 +150,61 @@ pub fn inner_text(page: &[u8], table: &[u32], h: usize, out: &mut [u8]) -> Count
             Counted::Refused(why)
         }
         Checked::Fine => write_text(page, table, h, out),
+    }
+}
+
+// ---- lookups by id and class
+
+// The tag with an id: in a scan the lowest handle, else the one closed last.
+pub fn get_element_by_id(page: &[u8], table: &[u32], manner: Manner, id: &[u8]) -> Found
+    ensures { λ r. ⌜ r ≡ idAnswer isWhite (now (page .entry)) (now (table .entry)) manner (now (id .entry)) ⌝ }
+{
+    match check(page, table) {
+        Checked::Refused(why) => Found::Refused(why),
+        Checked::Fine => {
+            let t = scan::mark_table();
+            match manner {
+                Manner::Scan => vdom::id_scan(&t, page, table, id),
+                Manner::Closed => closing::id_closed(&t, page, table, id),
+            }
+        }
+    }
+}
+
+// The tags with a class, of a sound table.
+fn list_class(page: &[u8], table: &[u32], manner: Manner, class: &[u8], out: &mut [u32]) -> Counted
+    requires { ⌜ sound (length (now page)) (now table) ≡ true ⌝ }
+    ensures { λ r. ⌜
+        (let found = byClass isWhite (now (page .entry)) (now (table .entry)) manner (now (class .entry)) in
+        Writes found (now (out .entry)) r (now (out .exit)))
+        ⌝ }
+{
+    let t = scan::mark_table();
+    match manner {
+        Manner::Scan => vdom::class_scan(&t, page, table, class, out),
+        Manner::Closed => closing::class_closed(&t, page, table, class, out),
+    }
+}
+
+// The tags with a class: in a scan each once in handle order, else in closing order, once for each time.
+pub fn get_elements_by_class_name(
+    page: &[u8],
+    table: &[u32],
+    manner: Manner,
+    class: &[u8],
+    out: &mut [u32],
+) -> Counted
+    ensures { λ r. ⌜
+        (let p = now (page .entry) in
+        let ws = now (table .entry) in
+        let b = now (out .entry) in
+        let k = now (class .entry) in
+        Filled (classAnswer isWhite p ws manner k (length b)) (classBuffer isWhite p ws manner k b) r (now (out .exit)))
+        ⌝ }
+{
+    match check(page, table) {
+        Checked::Refused(why) => refuse(out, why),
+        Checked::Fine => list_class(page, table, manner, class, out),
     }
 }
 
