@@ -11,7 +11,7 @@ ghost use Prim.Native.Nat.{_*_, _≤_, _<_, min};
 ghost use lib.ListN.{length};
 ghost use Rattle.rules.specs.Scan.{part as partOf};
 ghost use Rattle.rules.specs.Lookup.{answer};
-ghost use Rattle.rules.specs.Finds.{valued, heldTimes, nodeHasId, nodeClassTimes};
+ghost use Rattle.rules.specs.Finds.{valued, nodeHasId, nodeClassTimes};
 ghost use Rattle.rules.specs.Query.{nameOf, textOf, present, tagFits, otherFits, nodeFits, joined, meaning};
 ghost use Rattle.scan.specs.Marks.{Marked, whiteIn};
 ghost use Rattle.piece.specs.Words.{pieceWords, piecesFrom};
@@ -19,6 +19,7 @@ ghost use Rattle.matching.specs.Matching.{compared, Placed};
 
 // ---- parts of the page and of the selector
 
+// The lesser of two.
 fn least(a: usize, b: usize) -> usize
     ensures { λ r. ⌜ r ≡ min a b ⌝ }
 {
@@ -67,6 +68,7 @@ enum Compare {
     Substring,
 }
 
+// Whether the value v fits.
 fn value_fits(v: &[u8], k: &[u8], how: Compare) -> bool
     ensures { λ r. ⌜ r ≡ compared how (now (k .entry)) (now (v .entry)) ⌝ }
 {
@@ -93,6 +95,7 @@ fn check_attribute(t: &[u8; 256], page: &[u8], n: Node, name: &[u8], k: &[u8], h
     }
 }
 
+// The attribute is there, with a value or without.
 fn has_attribute(t: &[u8; 256], page: &[u8], n: Node, name: &[u8]) -> bool
     requires { ⌜ Marked (now t) × (n .stop < n .opened) × (n .opened ≤ length (now page)) ⌝ }
     ensures { λ r. ⌜ r ≡ present (answer (whiteIn (now (t .entry))) (now (page .entry)) n (now (name .entry))) ⌝ }
@@ -105,7 +108,7 @@ fn has_attribute(t: &[u8; 256], page: &[u8], n: Node, name: &[u8]) -> bool
     }
 }
 
-// The tag with that id.
+// The node is a tag with that id.
 pub fn has_id(t: &[u8; 256], page: &[u8], n: Node, name: &[u8]) -> bool
     requires { ⌜ Marked (now t) × Placed (now page) n ⌝ }
     ensures { λ r. ⌜ r ≡ nodeHasId (whiteIn (now (t .entry))) (now (page .entry)) (now (name .entry)) n ⌝ }
@@ -116,7 +119,7 @@ pub fn has_id(t: &[u8; 256], page: &[u8], n: Node, name: &[u8]) -> bool
     check_attribute(t, page, n, b"id", name, Compare::Equal)
 }
 
-// How many times the class value holds the name.
+// How many times the node's class value holds the name, as a word.
 pub fn class_times(t: &[u8; 256], page: &[u8], n: Node, name: &[u8]) -> usize
     requires { ⌜ Marked (now t) × Placed (now page) n ⌝ }
     ensures { λ r. ⌜ r ≡ nodeClassTimes (whiteIn (now (t .entry))) (now (page .entry)) (now (name .entry)) n ⌝ }
@@ -134,7 +137,7 @@ pub fn class_times(t: &[u8; 256], page: &[u8], n: Node, name: &[u8]) -> usize
 
 // ---- one simple selector
 
-// `[a=b]` and its kin, for a tag.
+// For a tag: `[a=b]`, `[a~=b]` and their like.
 fn check_value(
     t: &[u8; 256],
     page: &[u8],
@@ -153,7 +156,7 @@ fn check_value(
     check_attribute(t, page, n, text(s, a), text(s, b), how)
 }
 
-// Any, for a tag.
+// For a tag: any.
 fn tag_fits(t: &[u8; 256], page: &[u8], n: Node, s: &[u8], x: Simple) -> bool
     requires { ⌜ Marked (now t) × (n .stop < n .opened) × (n .opened ≤ length (now page)) ⌝ }
     ensures { λ r. ⌜
@@ -201,6 +204,7 @@ fn is_all(x: Simple) -> bool
     }
 }
 
+// For any node.
 pub fn fits(t: &[u8; 256], page: &[u8], n: Node, s: &[u8], x: Simple) -> bool
     requires { ⌜ Marked (now t) × Placed (now page) n ⌝ }
     ensures { λ r. ⌜ r ≡ nodeFits (whiteIn (now (t .entry))) (now (page .entry)) (now (s .entry)) n x ⌝ }
@@ -213,7 +217,7 @@ pub fn fits(t: &[u8; 256], page: &[u8], n: Node, s: &[u8], x: Simple) -> bool
 
 // ---- a chain of pieces
 
-// A piece and the rest of its chain. Where the rest decides, the piece is not asked.
+// A piece and the rest of its chain. A piece that makes no difference is not looked at.
 fn join(t: &[u8; 256], page: &[u8], n: Node, s: &[u8], p: Piece, rest: bool) -> bool
     requires { ⌜ Marked (now t) × Placed (now page) n ⌝ }
     ensures { λ r. ⌜

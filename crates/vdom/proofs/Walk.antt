@@ -16,6 +16,11 @@ use Rattle.rules.specs.declared.Found.the-variants.{At}
 use Rattle.rules.proofs.Lists.{from-append, only-append}
 use Rattle.vdom.specs.Vdom.{Listed}
 
+-- x is stored after xs, which stands at the front of d
+store : (xs d : List ℕ) (n x : ℕ) → length xs ≡ n → n < length d → set (xs ++ drop n d) n x ≡ (xs ++ (x ∷ [])) ++ drop (n + 1) d
+store xs d n x e l =
+    rw (drop-cons d n 0 l, set-at xs (getD d n 0) (drop (suc n) d) x n e, add-one) (sym (append-assoc xs (x ∷ []) (drop (suc n) d)))
+
 module _ (f : ℕ → Bool) (lo : ℕ) where
   -- found among the first k handles
   abbrev pub among : ℕ → List ℕ
@@ -71,16 +76,10 @@ module _ (f : ℕ → Bool) (lo : ℕ) where
       walk-hit {out₁} {n₁} t l e m =
           let b : n < length out₀ = omega (arith, walk-size) in
           let y : length (among (k + 1)) ≡ length (among k) + 1 = ap length (hit k h q t) ∙ length-append (among k) (h ∷ []) in
-          let s : set (among k ++ drop n out₀) n h ≡ among k ++ (h ∷ drop (suc n) out₀) =
-          ap (λ (d : List ℕ). set (among k ++ d) n h) (drop-cons out₀ n 0 b) ∙ set-at (among k) (getD out₀ n 0) (drop (suc n) out₀) h n (sym (w .number)) in
           record {
             number = omega (arith, w .number);
             room = omega arith;
-            buffer =
-                e
-                ∙ ap (λ (d : List ℕ). set d n h) (w .buffer)
-                ∙ s
-                ∙ rw (hit k h q t, m, add-one) (sym (append-assoc (among k) (h ∷ []) (drop (suc n) out₀)));
+            buffer = e ∙ ap (λ (d : List ℕ). set d n h) (w .buffer) ∙ store (among k) out₀ n h (sym (w .number)) b ∙ rw (hit k h q t, m);
           }
 
       pub walk-miss : {out₁ : List ℕ} {n₁ : ℕ} → f h ≡ false → out₁ ≡ out → n₁ ≡ n → Walked out₀ out₁ n₁ (k + 1)
@@ -90,8 +89,8 @@ module _ (f : ℕ → Bool) (lo : ℕ) where
       pub walk-short : {left : List ℕ} (count : ℕ) → k < count → f h ≡ true → length out ≤ n → left ≡ replicate (length out) 0
           → Listed out₀ (among count) left (Refused BufferTooShort)
       walk-short count l t b e =
-          let y : length (among count) ≡ length (among k) + suc (length (only f (from (lo + (k + 1)) (count - (k + 1))))) =
-          ap length (cut k h q count l t) ∙ length-append (among k) (h ∷ only f (from (lo + (k + 1)) (count - (k + 1)))) in
+          let rest : List ℕ = only f (from (lo + (k + 1)) (count - (k + 1))) in
+          let y : length (among count) ≡ length (among k) + suc (length rest) = ap length (cut k h q count l t) ∙ length-append (among k) (h ∷ rest) in
           let z : length out₀ < length (among count) = omega (arith, walk-size, w .number) in
           record { answer = rw (lt-ltb (length out₀) (length (among count)) z); buffer = e ∙ rw walk-size }
 

@@ -124,18 +124,8 @@ pub fn class_scan(
         ⌝ }
 {
     let count = row_count(table);
-    find_all(
-        t,
-        page,
-        table,
-        Ask::Class,
-        name,
-        &table[0..0],
-        0,
-        0,
-        count,
-        out,
-    )
+    let chain = &table[0..0];
+    find_all(t, page, table, Ask::Class, name, chain, 0, 0, count, out)
 }
 
 // query_selector over the page.
@@ -178,16 +168,7 @@ pub fn query_below(
 {
     let row = table::row_at(table, h);
     let last = row.last as usize;
-    find_all(
-        t,
-        page,
-        table,
-        Ask::Chain,
-        s,
-        words,
-        pieces,
-        h + 1,
-        last - h,
-        out,
-    )
+    let lo = h + 1;
+    let count = last - h;
+    find_all(t, page, table, Ask::Chain, s, words, pieces, lo, count, out)
 }

@@ -10,7 +10,9 @@ returns : tie.Need-returns
 returns c = rw (ne-eqb _ _ (c .if1 .taken))
 
 attribute-requires : tie.Need-attribute-requires
-attribute-requires c κs = let s = c .before .before .before .before .before in let l = s .pre .1 (c .before .if1 .left) in (s .pre .0, l .0, l .1)
+attribute-requires c κs =
+    let s = c .before .before .before .before .before in
+    let l = s .pre .1 (c .before .if1 .left) in (s .pre .0, l .0, l .1)
 
 returns-2 : tie.Need-returns-2
 returns-2 c =

@@ -8,7 +8,9 @@ returns : tie.Need-returns
 returns c = rw (ne-eqb _ _ (c .if1 .taken))
 
 check-attribute-requires : tie.Need-check-attribute-requires
-check-attribute-requires c κs = let s = c .before .before .before .before .before in let l = s .pre .1 (c .before .if1 .left) in (s .pre .0, l .0, l .1)
+check-attribute-requires c κs =
+    let s = c .before .before .before .before .before in
+    let l = s .pre .1 (c .before .if1 .left) in (s .pre .0, l .0, l .1)
 
 returns-2 : tie.Need-returns-2
 returns-2 c = rw (eq-eqb _ _ (c .before .before .if1 .left)) (c .check-attribute .ensures)

@@ -6,10 +6,13 @@ use Rattle.matching.proofs.part.Tie as tie
 
 returns : tie.Need-returns
 returns c =
-    let a = c .before .before .before .before .args in part-none (a .s .now) (a .a) (a .e) _ (c .before .before .least .ensures) (c .before .if1 .taken)
+    let a = c .before .before .before .before .args in
+    part-none (a .s .now) (a .a) (a .e) _ (c .before .before .least .ensures) (c .before .if1 .taken)
 
 returns-2 : tie.Need-returns-2
-returns-2 c = let a = c .before .before .before .before .args in part-clamp (a .s .now) (a .a) (a .e) _ (c .before .before .least .ensures)
+returns-2 c =
+    let a = c .before .before .before .before .args in
+    part-clamp (a .s .now) (a .a) (a .e) _ (c .before .before .least .ensures)
 
 pub part-spec : {M : Type 1} → statement M
 part-spec =

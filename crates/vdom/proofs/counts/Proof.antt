@@ -1,7 +1,5 @@
 -- `vdom::counts` meets its contract: each arm asks what its variant means.
 use borrow.Author.Needs.{needs}
-use mathlib.Core.Path.{ap, _∙_}
-use mathlib.Core.Bool.{not}
 use Rattle.vdom.proofs.counts.Statement.{statement}
 use Rattle.vdom.proofs.counts.Tie as tie
 

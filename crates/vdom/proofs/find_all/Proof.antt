@@ -46,9 +46,10 @@ same-length c =
 returns : tie.Need-returns Inv-loop μ-loop
 returns c =
     let a = c .before .before .before .before .before .before in
+    let w = a .before .before .before .loop .inv .1 in
     let asked = rw (a .before .row-at .ensures) at (a .counts .ensures) in
-    walk-short _ _ (a .before .before .before .loop .inv .1) _ refl _ (a .before .before .loop-test .taken) (sym asked ∙ c .before .before .before .before .before .if1 .taken)
-    (c .before .before .before .before .if2 .taken) (c .before .before .clear .ensures)
+    let yes = sym asked ∙ c .before .before .before .before .before .if1 .taken in
+    walk-short _ _ w _ refl _ (a .before .before .loop-test .taken) yes (c .before .before .before .before .if2 .taken) (c .before .before .clear .ensures)
 
 cast-out : tie.Need-cast-out Inv-loop μ-loop
 cast-out c = omega (arith, c .before .before .before .before .before .before .before .before .before .shared-slice-known2 .given 0)

@@ -7,16 +7,18 @@ use Rattle.vdom.proofs.query_below.Statement.{statement}
 use Rattle.vdom.proofs.query_below.Tie as tie
 
 row-at-requires : tie.Need-row-at-requires
-row-at-requires c κs = let s = c .before .before .before .before .before in row-fits (s .args .page .now) (s .args .table .now) (s .pre .0 .1) (s .args .h) (s .pre .1 .1)
+row-at-requires c κs =
+    let s = c .before .before .before .before .before in
+    row-fits (s .args .page .now) (s .args .table .now) (s .pre .0 .1) (s .args .h) (s .pre .1 .1)
 
-add-find-all : tie.Need-add-find-all
-add-find-all c =
+add-lo : tie.Need-add-lo
+add-lo c =
     let s = c .before .before .before .before .before .before .before in
     let r = row-range (s .args .page .now) (s .args .table .now) (s .pre .0 .1) (s .args .h) (s .pre .1 .1) (c .before .row-at .ensures) in
     omega arith
 
-sub-find-all : tie.Need-sub-find-all
-sub-find-all c =
+sub-count : tie.Need-sub-count
+sub-count c =
     let s = c .before .before .before .before .before .before .before in
     let r = row-range (s .args .page .now) (s .args .table .now) (s .pre .0 .1) (s .args .h) (s .pre .1 .1) (c .before .row-at .ensures) in
     omega arith
@@ -28,10 +30,11 @@ find-all-requires c κs =
     (s .pre .0, (s .pre .1 .0, omega arith))
 
 returns : tie.Need-returns
-returns c = rw (c .before .before .before .before .before .row-at .ensures, add-one) at (c .before .before .find-all .ensures)
+returns c =
+    let h = c .before .before .before .before .before .before .before .before .before .before .before .args .h in
+    rw (← add-one h) (rw (c .before .before .before .before .before .row-at .ensures) at (c .before .before .find-all .ensures))
 
 pub query-below-spec : {M : Type 1} → statement M
 query-below-spec =
     tie.close
-    (tie.spec row-at-requires (λ c. search needs) add-find-all sub-find-all find-all-requires (λ c. search needs)
-    returns)
+    (tie.spec row-at-requires (λ c. search needs) add-lo sub-count find-all-requires (λ c. search needs) returns)
