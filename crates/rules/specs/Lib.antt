@@ -20,5 +20,6 @@ pub mod Chain
 pub mod Query
 pub mod Refusals
 pub mod Answers
+pub mod Batch
 pub mod Questions
 pub mod Pages

@@ -1,0 +1,53 @@
+-- What the public calls promise of a buffer.
+use mathlib.Core.Bool.{Bool, _&&_}
+use mathlib.Core.Path.{_≡_}
+use mathlib.Core.List.{List}
+use Prim.Native.Nat.{ℕ, _<_}
+use lib.Dec.{ltb}
+use lib.ListN.{length, replicate}
+use Rattle.rules.specs.Bytes.{isWhite}
+use Rattle.rules.specs.Table.{nodeAt}
+use Rattle.rules.specs.Sound.{countOf, tagged}
+use Rattle.rules.specs.Chain.{readSelector}
+use Rattle.rules.specs.Query.{overPage, belowTag}
+use Rattle.rules.specs.Refusals.{counted, filledBy}
+use Rattle.rules.specs.Answers.{findsOf, selected}
+use Rattle.rules.specs.declared.Piece.{Piece}
+use Rattle.rules.specs.declared.Refusal.{Refusal}
+use Rattle.rules.specs.declared.Counted.{Counted}
+use Rattle.rules.specs.declared.Counted.the-variants.{Refused}
+use Rattle.calls.specs.declared.Scope.{Scope}
+use Rattle.calls.specs.declared.Scope.the-variants.{Page, Below}
+
+-- the answer, and the lent buffer afterwards
+pub record Filled (answer : Counted) (buffer : List ℕ) (r : Counted) (out : List ℕ) : Type 0 where
+  pub is : r ≡ answer
+  pub left : out ≡ buffer
+
+-- what was found is counted and written into the lent buffer b, or refused as 7 for lack of room
+pub record Writes (found b : List ℕ) (r : Counted) (out : List ℕ) : Type 0 where
+  pub is : r ≡ counted (length b) (length found)
+  pub left : out ≡ filledBy b found r
+
+-- a refusal leaves the lent words all zero
+pub record Refuses (b : List ℕ) (why : Refusal) (r : Counted) (out : List ℕ) : Type 0 where
+  pub is : r ≡ Refused why
+  pub left : out ≡ replicate (length b) 0
+
+-- where a query looks: over the page, or below a tag
+abbrev pub scoped : List ℕ → List ℕ → List ℕ → Scope → List Piece → List ℕ
+scoped p ws s Page = overPage isWhite p ws s
+scoped p ws s (Below h) = belowTag isWhite p ws s h
+
+abbrev pub InScope : List ℕ → Scope → Type 0
+InScope ws Page = Unit {0}
+InScope ws (Below h) = h < countOf ws
+
+-- a query's answer by its selector, and the lent words afterwards
+pub record Selects (finds : List Piece → List ℕ) (s b : List ℕ) (r : Counted) (out : List ℕ) : Type 0 where
+  pub is : r ≡ selected finds s (length b)
+  pub left : out ≡ filledBy b (findsOf finds (readSelector s)) r
+
+-- h is a tag's handle
+abbrev pub isTag : List ℕ → ℕ → Bool
+isTag ws h = ltb h (countOf ws) && tagged (nodeAt ws h)
