@@ -1,5 +1,4 @@
 pub mod Rows
-pub mod Values
 pub mod Moves
 pub mod Cuts
 pub mod Steps

@@ -5,12 +5,8 @@ use mathlib.Core.List.{List, [], _∷_, _++_, reverse, reverse-cons}
 use Prim.Native.Nat.{ℕ, zero, suc, _+_, _≤_, _<_}
 use native.Mathlib.Omega.{arith}
 use lib.ListN.{length, getD, replicate}
-use Rattle.rules.specs.Lists.{from, only, each}
+use Rattle.rules.specs.Lists.{from, only, each, All}
 use Rattle.rules.proofs.Pick.{cases}
-
-abbrev pub All : (ℕ → Type 0) → List ℕ → Type 0
-All P [] = Unit {0}
-All P (x ∷ xs) = P x × All P xs
 
 module _ (P : ℕ → Type 0) where
   pub all-append : (xs ys : List ℕ) → All P xs → All P ys → All P (xs ++ ys)

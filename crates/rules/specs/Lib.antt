@@ -15,6 +15,7 @@ pub mod Lookup
 pub mod Words
 pub mod Text
 pub mod Finds
+pub mod Closing
 pub mod Selector
 pub mod Chain
 pub mod Query

@@ -18,3 +18,8 @@ only f (x ∷ xs) = let more = only f xs in pick (f x) (x ∷ more) more
 unfoldable pub each : (ℕ → List ℕ) → List ℕ → List ℕ
 each f [] = []
 each f (x ∷ xs) = f x ++ each f xs
+
+-- P holds of every entry
+abbrev pub All : (ℕ → Type 0) → List ℕ → Type 0
+All P [] = Unit {0}
+All P (x ∷ xs) = P x × All P xs

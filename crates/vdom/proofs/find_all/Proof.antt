@@ -6,9 +6,9 @@ use Prim.Native.Nat.{_+_, _-_, _≤_}
 use native.Mathlib.Omega.{arith}
 use lib.ListN.{length, length-replicate}
 use Rattle.scan.specs.Marks.{whiteIn}
+use Rattle.matching.proofs.Rows.{row-fits, row-placed}
 use Rattle.vdom.specs.Vdom.{rowAsks}
 use Rattle.vdom.proofs.Walk.{Walked, walk-none, walk-size, walk-hit, walk-miss, walk-short, walk-end}
-use Rattle.vdom.proofs.Rows.{row-fits, row-placed}
 use Rattle.vdom.proofs.find_all.Statement.{statement}
 use Rattle.vdom.proofs.find_all.Tie as tie
 

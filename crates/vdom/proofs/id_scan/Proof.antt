@@ -9,8 +9,9 @@ use Rattle.rules.specs.Sound.{countOf}
 use Rattle.rules.specs.Finds.{hasId}
 use Rattle.rules.specs.Answers.{firstFound}
 use Rattle.scan.specs.Marks.{whiteIn}
+use Rattle.matching.proofs.Rows.{row-fits, row-placed}
 use Rattle.vdom.proofs.Walk.{among, miss, first-hit}
-use Rattle.vdom.proofs.Rows.{count-fits, row-fits, row-placed}
+use Rattle.vdom.proofs.Rows.{count-fits}
 use Rattle.vdom.proofs.id_scan.Statement.{statement}
 use Rattle.vdom.proofs.id_scan.Tie as tie
 

@@ -2,7 +2,8 @@
 use borrow.Author.Needs.{needs}
 use native.Mathlib.Numerals.{add-one}
 use native.Mathlib.Omega.{arith}
-use Rattle.vdom.proofs.Rows.{row-fits, row-range}
+use Rattle.matching.proofs.Rows.{row-fits}
+use Rattle.vdom.proofs.Rows.{row-range}
 use Rattle.vdom.proofs.query_below.Statement.{statement}
 use Rattle.vdom.proofs.query_below.Tie as tie
 
