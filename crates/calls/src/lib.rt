@@ -27,7 +27,7 @@ const DEPTH: usize = 64;
 // ---- the checks that come before an answer
 
 // Refusals 1 and 3.
-fn check(page: &[u8], table: &[u32]) -> Checked
+pub fn check(page: &[u8], table: &[u32]) -> Checked
     ensures { λ r. ⌜ r ≡ asking Checked.Refused (now (page .entry)) (now (table .entry)) Checked.Fine ⌝ }
 {
     let len = page.len();
@@ -41,7 +41,7 @@ fn check(page: &[u8], table: &[u32]) -> Checked
 }
 
 // Whether a handle is a tag's.
-fn is_tag(table: &[u32], len: usize, h: usize) -> bool
+pub fn is_tag(table: &[u32], len: usize, h: usize) -> bool
     requires { ⌜ sound len (now table) ≡ true ⌝ }
     ensures { λ r. ⌜ r ≡ isTag (now (table .entry)) h ⌝ }
 {
@@ -217,7 +217,7 @@ enum Scope {
 }
 
 // A refusal leaves the words all zero.
-fn refuse(out: &mut [u32], why: Refusal) -> Counted
+pub fn refuse(out: &mut [u32], why: Refusal) -> Counted
     ensures { λ r. ⌜ Refuses (now (out .entry)) why r (now (out .exit)) ⌝ }
 {
     table::clear(out);

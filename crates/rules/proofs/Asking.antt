@@ -58,7 +58,22 @@ module _ (p ws : List ℕ) where
   pub answered : {A : Type 0} (R : Refusal → A) (b : A) → Sound → asking R p ws b ≡ b
   answered R b s = rw (s .short, s .table)
 
-  -- the same with a tag
+  -- the same with a test of refusal 4
+  module _ (t : Bool) where
+    pub was-fine-also : asking Refused p ws (pick t (Refused NotATag) Fine) ≡ Fine → Sound × (t ≡ false)
+    was-fine-also e =
+        let a = fine-then (pick t (Refused NotATag) Fine) e in (a .0, after-fine t NotATag Fine (a .1) .0)
+
+    pub was-refused-also : {A : Type 0} (R : Refusal → A) (b : A) (y : Refusal) → asking Refused p ws (pick t (Refused NotATag) Fine) ≡ Refused y
+        → asking R p ws (pick t (R NotATag) b) ≡ R y
+    was-refused-also R b y e =
+        refused-then R (pick t (Refused NotATag) Fine) (pick t (R NotATag) b) y e
+        (λ g. after-refused R t NotATag y Fine b g never)
+
+    pub answered-also : {A : Type 0} (R : Refusal → A) (b : A) → Sound → t ≡ false → asking R p ws (pick t (R NotATag) b) ≡ b
+    answered-also R b s f = rw (s .short, s .table, f)
+
+  -- the test of one handle
   module _ (h : ℕ) where
     pub record SoundTag : Type 0 where
       pub sound-table : Sound
@@ -66,22 +81,21 @@ module _ (p ws : List ℕ) where
       pub below : h < countOf ws
       pub tag : nodeAt ws h .kind ≡ 1
 
-    pub was-fine-tag : askingTag Refused p ws h Fine ≡ Fine → SoundTag
-    was-fine-tag e =
-        let a = fine-then (pick (notATag ws h) (Refused NotATag) Fine) e in
-        let c = after-fine (notATag ws h) NotATag Fine (a .1) in
-        let t : (ltb h (countOf ws) && tagged (nodeAt ws h)) ≡ true = not-false (ltb h (countOf ws) && tagged (nodeAt ws h)) (c .0) in
+    pub sound-tag : Sound → notATag ws h ≡ false → SoundTag
+    sound-tag s f =
+        let t : (ltb h (countOf ws) && tagged (nodeAt ws h)) ≡ true = not-false (ltb h (countOf ws) && tagged (nodeAt ws h)) f in
         record {
-          sound-table = a .0;
-          tag-test = c .0;
+          sound-table = s;
+          tag-test = f;
           below = ltb-true h (countOf ws) (and-left (ltb h (countOf ws)) (tagged (nodeAt ws h)) t);
           tag = eqb-true (nodeAt ws h .kind) 1 (and-right (ltb h (countOf ws)) (tagged (nodeAt ws h)) t);
         }
 
+    pub was-fine-tag : askingTag Refused p ws h Fine ≡ Fine → SoundTag
+    was-fine-tag e = let a = was-fine-also (notATag ws h) e in sound-tag (a .0) (a .1)
+
     pub was-refused-tag : {A : Type 0} (R : Refusal → A) (b : A) (y : Refusal) → askingTag Refused p ws h Fine ≡ Refused y → askingTag R p ws h b ≡ R y
-    was-refused-tag R b y e =
-        refused-then R (pick (notATag ws h) (Refused NotATag) Fine) (pick (notATag ws h) (R NotATag) b) y e
-        (λ g. after-refused R (notATag ws h) NotATag y Fine b g never)
+    was-refused-tag = was-refused-also (notATag ws h)
 
     pub answered-tag : {A : Type 0} (R : Refusal → A) (b : A) → SoundTag → askingTag R p ws h b ≡ b
-    answered-tag R b s = rw (s .sound-table .short, s .sound-table .table, s .tag-test)
+    answered-tag R b s = answered-also (notATag ws h) R b (s .sound-table) (s .tag-test)

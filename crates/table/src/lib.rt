@@ -128,3 +128,14 @@ pub fn clear_bytes(out: &mut [u8])
         i += 1;
     }
 }
+
+// Sets all places to zero, as a refusal leaves a buffer of places.
+pub fn clear_places(places: &mut [usize])
+    ensures { λ _. ⌜ now (places .exit) ≡ replicate (length (now (places .entry))) 0 ⌝ }
+{
+    let mut i = 0;
+    while i < places.len() {
+        places[i] = 0;
+        i += 1;
+    }
+}

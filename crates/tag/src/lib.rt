@@ -206,7 +206,7 @@ fn put_text(page: &[u8], n: Node, out: &mut [u8], at: usize) -> usize
 }
 
 // The inner text by a flat walk over the range.
-fn flat_text(page: &[u8], table: &[u32], h: usize, out: &mut [u8], at: usize) -> usize
+pub fn flat_text(page: &[u8], table: &[u32], h: usize, out: &mut [u8], at: usize) -> usize
     requires { ⌜ (sound (length (now page)) (now table) ≡ true) × (h < countOf (now table)) ⌝ }
     requires { ⌜ at + length (innerText (now page) (now table) h) ≤ length (now out) ⌝ }
     ensures { λ r. ⌜ Wrote (now (out .entry)) at (innerText (now (page .entry)) (now (table .entry)) h) (now (out .exit)) r ⌝ }

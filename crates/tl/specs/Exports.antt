@@ -25,3 +25,9 @@ Ascending (Refused x) = Unit {0}
 pub record Exports (answer : Counted) (buffer : List ℕ) (r count : ℕ) (out : List ℕ) : Type 0 where
   pub is : (r ∷ count ∷ []) ≡ countedNumbers answer
   pub left : out ≡ buffer
+
+-- a call that writes two buffers
+pub record ExportsBoth (answer : Counted) (places bytes : List ℕ) (r count : ℕ) (ends out : List ℕ) : Type 0 where
+  pub is : (r ∷ count ∷ []) ≡ countedNumbers answer
+  pub ends-left : ends ≡ places
+  pub out-left : out ≡ bytes

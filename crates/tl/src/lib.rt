@@ -14,7 +14,8 @@ ghost use Rattle.rules.specs.Bytes.{isWhite};
 ghost use Rattle.rules.specs.Names.{isVoid};
 ghost use Rattle.rules.specs.Refusals.{numberOf, countedNumbers, rangedNumbers, foundNumbers, heldNumbers, askedNumbers};
 ghost use Rattle.rules.specs.Answers.{parseAnswer, parseTable, selectorAnswer, selectorBuffer, rangeAnswer, textAnswer, textBuffer, attributeAnswer, idAnswer, classAnswer, classBuffer, queryAnswer, queryBuffer, queryBelowAnswer, queryBelowBuffer};
-ghost use Rattle.tl.specs.Exports.{mannerOf, Ascending, Exports};
+ghost use Rattle.rules.specs.Batch.{attributesAnswer, attributesBuffer, textsAnswer, textsBuffer, endsBuffer};
+ghost use Rattle.tl.specs.Exports.{mannerOf, Ascending, Exports, ExportsBoth};
 
 // ---- answers in numbers
 
@@ -275,4 +276,49 @@ pub extern "C" fn tl_query_selector_below(
         ⌝ }
 {
     counted(calls::query_selector_below(page, table, h, s, out), count)
+}
+
+// What each tag of a list holds for an attribute name, three words each.
+#[no_mangle]
+pub extern "C" fn tl_attributes(
+    page: &[u8],
+    table: &[u32],
+    handles: &[u32],
+    name: &[u8],
+    out: &mut [u32],
+    count: &mut usize,
+) -> u32
+    ensures { λ r. ⌜
+        (let p = now (page .entry) in
+        let ws = now (table .entry) in
+        let hs = now (handles .entry) in
+        let k = now (name .entry) in
+        let b = now (out .entry) in
+        Exports (attributesAnswer isWhite p ws hs (length b)) (attributesBuffer isWhite p ws hs k b) r (now (count .exit)) (now (out .exit)))
+        ⌝ }
+{
+    counted(batch::attributes(page, table, handles, name, out), count)
+}
+
+// The inner texts of a list of tags, one after the other, and where each ends.
+#[no_mangle]
+pub extern "C" fn tl_inner_texts(
+    page: &[u8],
+    table: &[u32],
+    handles: &[u32],
+    ends: &mut [usize],
+    out: &mut [u8],
+    count: &mut usize,
+) -> u32
+    ensures { λ r. ⌜
+        (let p = now (page .entry) in
+        let ws = now (table .entry) in
+        let hs = now (handles .entry) in
+        let e = now (ends .entry) in
+        let b = now (out .entry) in
+        let answer = textsAnswer p ws hs (length e) (length b) in
+        ExportsBoth answer (endsBuffer p ws hs e b) (textsBuffer p ws hs e b) r (now (count .exit)) (now (ends .exit)) (now (out .exit)))
+        ⌝ }
+{
+    counted(batch::inner_texts(page, table, handles, ends, out), count)
 }

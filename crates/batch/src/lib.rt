@@ -1,0 +1,261 @@
+// The calls on a list of handles: one test of page, table and handles, then the single call's answer for each handle, in order.
+use rules::Checked;
+use rules::Counted;
+use rules::Held;
+use rules::Refusal;
+ghost use mathlib.Core.Path.{_≡_};
+ghost use mathlib.Core.Bool.{true, not, _||_};
+ghost use mathlib.Core.List.{[], _∷_, _++_};
+ghost use Prim.Native.Nat.{_+_, _*_, _≤_, _<_};
+ghost use lib.Dec.{ltb};
+ghost use lib.ListN.{length, drop, replicate};
+ghost use Rattle.rules.specs.Bytes.{isWhite};
+ghost use Rattle.rules.specs.Sound.{countOf, sound};
+ghost use Rattle.rules.specs.Text.{innerText};
+ghost use Rattle.rules.specs.Refusals.{pageLimit, notATag, heldNumbers, filledBy};
+ghost use Rattle.rules.specs.Buffers.{Wrote};
+ghost use Rattle.rules.specs.Batch.{some, attributesFound, attributesAnswer, attributesBuffer, textsFound, endsFound, textsAnswer, textsBuffer, endsBuffer};
+ghost use Rattle.rules.proofs.Lookup.{Inside};
+ghost use Rattle.calls.specs.Calls.{Filled};
+ghost use Rattle.batch.specs.Batch.{tagsChecked, Tags, unless, FilledBoth, Puts};
+
+// ---- the checks that come before the answers
+
+// Whether each handle is a tag's.
+fn all_tags(table: &[u32], len: usize, handles: &[u32]) -> bool
+    requires { ⌜ sound len (now table) ≡ true ⌝ }
+    ensures { λ r. ⌜ r ≡ not (some (notATag (now (table .entry))) (now (handles .entry))) ⌝ }
+{
+    let mut i = 0;
+    while i < handles.len() {
+        let h = handles[i] as usize;
+        if !calls::is_tag(table, len, h) {
+            return false;
+        }
+        i += 1;
+    }
+    true
+}
+
+// Refusals 1, 3 and 4.
+fn check_tags(page: &[u8], table: &[u32], handles: &[u32]) -> Checked
+    ensures { λ r. ⌜ r ≡ tagsChecked (now (page .entry)) (now (table .entry)) (now (handles .entry)) ⌝ }
+{
+    match calls::check(page, table) {
+        Checked::Refused(why) => Checked::Refused(why),
+        Checked::Fine => {
+            if all_tags(table, page.len(), handles) {
+                return Checked::Fine;
+            }
+            Checked::Refused(Refusal::NotATag)
+        }
+    }
+}
+
+// ---- attributes
+
+// Writes three words from `at` on, and answers the place after them.
+fn put_three(out: &mut [u32], at: usize, which: u32, start: u32, end: u32) -> usize
+    requires { ⌜ at + 3 ≤ length (now out) ⌝ }
+    ensures { λ r. ⌜ Wrote (now (out .entry)) at (which ∷ start ∷ end ∷ []) (now (out .exit)) r ⌝ }
+{
+    out[at] = which;
+    out[at + 1] = start;
+    out[at + 2] = end;
+    at + 3
+}
+
+// Writes which of the three held, and where a value starts and ends.
+fn put_held(held: Held, out: &mut [u32], at: usize) -> usize
+    requires { ⌜ Inside pageLimit held × (at + 3 ≤ length (now out)) ⌝ }
+    ensures { λ r. ⌜ Wrote (now (out .entry)) at (heldNumbers held) (now (out .exit)) r ⌝ }
+{
+    match held {
+        Held::Absent => put_three(out, at, 0, 0, 0),
+        Held::Bare => put_three(out, at, 1, 0, 0),
+        Held::Value(start, end) => put_three(out, at, 2, start as u32, end as u32),
+    }
+}
+
+// Writes what each tag holds for the name. The table of marks is made once.
+fn put_attributes(page: &[u8], table: &[u32], handles: &[u32], name: &[u8], out: &mut [u32])
+    requires { ⌜ Tags (now page) (now table) (now handles) × (3 * length (now handles) ≤ length (now out)) ⌝ }
+    ensures { λ _. ⌜
+        (let found = attributesFound isWhite (now (page .entry)) (now (table .entry)) (now (handles .entry)) (now (name .entry)) in
+        now (out .exit) ≡ found ++ drop (length found) (now (out .entry)))
+        ⌝ }
+{
+    let t = scan::mark_table();
+    let mut at = 0;
+    let mut i = 0;
+    while i < handles.len() {
+        let h = handles[i] as usize;
+        let n = table::row_at(table, h);
+        let held = tag::attribute(&t, page, n, name);
+        at = put_held(held, out, at);
+        i += 1;
+    }
+}
+
+// The attributes of tags, or refusal 7.
+fn list_attributes(
+    page: &[u8],
+    table: &[u32],
+    handles: &[u32],
+    name: &[u8],
+    out: &mut [u32],
+) -> Counted
+    requires { ⌜ Tags (now page) (now table) (now handles) ⌝ }
+    ensures { λ r. ⌜
+        (let hs = now (handles .entry) in
+        let b = now (out .entry) in
+        let found = attributesFound isWhite (now (page .entry)) (now (table .entry)) hs (now (name .entry)) in
+        Filled (unless (ltb (length b) (3 * length hs)) (length hs)) (filledBy b found r) r (now (out .exit)))
+        ⌝ }
+{
+    let n = handles.len();
+    // three words each; a product might not fit
+    if out.len() / 3 < n {
+        return calls::refuse(out, Refusal::BufferTooShort);
+    }
+    put_attributes(page, table, handles, name, out);
+    Counted::Count(n)
+}
+
+// What each tag of a list holds for an attribute name, three words each: which of the three held (0 absent, 1 without a value,
+// 2 with a value), and where a value starts and ends.
+pub fn attributes(
+    page: &[u8],
+    table: &[u32],
+    handles: &[u32],
+    name: &[u8],
+    out: &mut [u32],
+) -> Counted
+    ensures { λ r. ⌜
+        (let p = now (page .entry) in
+        let ws = now (table .entry) in
+        let hs = now (handles .entry) in
+        let k = now (name .entry) in
+        let b = now (out .entry) in
+        Filled (attributesAnswer isWhite p ws hs (length b)) (attributesBuffer isWhite p ws hs k b) r (now (out .exit)))
+        ⌝ }
+{
+    match check_tags(page, table, handles) {
+        Checked::Refused(why) => calls::refuse(out, why),
+        Checked::Fine => list_attributes(page, table, handles, name, out),
+    }
+}
+
+// ---- inner texts
+
+// A refusal leaves both buffers all zero.
+fn refuse_texts(ends: &mut [usize], out: &mut [u8], why: Refusal) -> Counted
+    ensures { λ r. ⌜
+        (let e = replicate (length (now (ends .entry))) 0 in
+        let b = replicate (length (now (out .entry))) 0 in
+        FilledBoth (Counted.Refused why) e b r (now (ends .exit)) (now (out .exit)))
+        ⌝ }
+{
+    table::clear_places(ends);
+    table::clear_bytes(out);
+    Counted::Refused(why)
+}
+
+// The place after a text that was written, or there is no room for it.
+enum Put {
+    Until(usize),
+    Short,
+}
+
+// Writes the inner text of h from `at` on.
+fn put_text(page: &[u8], table: &[u32], h: usize, out: &mut [u8], at: usize) -> Put
+    requires { ⌜ (sound (length (now page)) (now table) ≡ true) × (h < countOf (now table)) × (at ≤ length (now out)) ⌝ }
+    ensures { λ r. ⌜ Puts (innerText (now (page .entry)) (now (table .entry)) h) (now (out .entry)) at r (now (out .exit)) ⌝ }
+{
+    let size = tag::text_length(page, table, h);
+    if out.len() - at < size {
+        return Put::Short;
+    }
+    Put::Until(tag::flat_text(page, table, h, out, at))
+}
+
+// Writes the inner texts one after the other, and where each ends.
+fn put_texts(
+    page: &[u8],
+    table: &[u32],
+    handles: &[u32],
+    ends: &mut [usize],
+    out: &mut [u8],
+) -> Counted
+    requires { ⌜ Tags (now page) (now table) (now handles) × (length (now handles) ≤ length (now ends)) ⌝ }
+    ensures { λ r. ⌜
+        (let p = now (page .entry) in
+        let ws = now (table .entry) in
+        let hs = now (handles .entry) in
+        let e = now (ends .entry) in
+        let b = now (out .entry) in
+        let answer = unless (ltb (length b) (length (textsFound p ws hs))) (length hs) in
+        FilledBoth answer (filledBy e (endsFound p ws hs) r) (filledBy b (textsFound p ws hs) r) r (now (ends .exit)) (now (out .exit)))
+        ⌝ }
+{
+    let mut at = 0;
+    let mut i = 0;
+    while i < handles.len() {
+        let h = handles[i] as usize;
+        let Put::Until(end) = put_text(page, table, h, out, at) else {
+            return refuse_texts(ends, out, Refusal::BufferTooShort);
+        };
+        ends[i] = end;
+        at = end;
+        i += 1;
+    }
+    Counted::Count(i)
+}
+
+// The inner texts of tags, or refusal 7.
+fn list_texts(
+    page: &[u8],
+    table: &[u32],
+    handles: &[u32],
+    ends: &mut [usize],
+    out: &mut [u8],
+) -> Counted
+    requires { ⌜ Tags (now page) (now table) (now handles) ⌝ }
+    ensures { λ r. ⌜
+        (let p = now (page .entry) in
+        let ws = now (table .entry) in
+        let hs = now (handles .entry) in
+        let e = now (ends .entry) in
+        let b = now (out .entry) in
+        let answer = unless (ltb (length e) (length hs) || ltb (length b) (length (textsFound p ws hs))) (length hs) in
+        FilledBoth answer (filledBy e (endsFound p ws hs) r) (filledBy b (textsFound p ws hs) r) r (now (ends .exit)) (now (out .exit)))
+        ⌝ }
+{
+    if ends.len() < handles.len() {
+        return refuse_texts(ends, out, Refusal::BufferTooShort);
+    }
+    put_texts(page, table, handles, ends, out)
+}
+
+// The inner texts of a list of tags, one after the other, and where each ends.
+pub fn inner_texts(
+    page: &[u8],
+    table: &[u32],
+    handles: &[u32],
+    ends: &mut [usize],
+    out: &mut [u8],
+) -> Counted
+    ensures { λ r. ⌜
+        (let p = now (page .entry) in
+        let ws = now (table .entry) in
+        let hs = now (handles .entry) in
+        let e = now (ends .entry) in
+        let b = now (out .entry) in
+        FilledBoth (textsAnswer p ws hs (length e) (length b)) (endsBuffer p ws hs e b) (textsBuffer p ws hs e b) r (now (ends .exit)) (now (out .exit)))
+        ⌝ }
+{
+    match check_tags(page, table, handles) {
+        Checked::Refused(why) => refuse_texts(ends, out, why),
+        Checked::Fine => list_texts(page, table, handles, ends, out),
+    }
+}
