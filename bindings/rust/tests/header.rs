@@ -1,0 +1,83 @@
+//! `sys` declares what include/tl.h does, argument for argument.
+
+use std::collections::BTreeMap;
+
+const HEADER: &str = include_str!("../../../include/tl.h");
+const SYS: &str = include_str!("../src/sys.rs");
+
+/// A text without what stands between two marks.
+fn without(mut text: &str, open: &str, close: &str) -> String {
+    let mut rest = String::new();
+    while let Some((before, after)) = text.split_once(open) {
+        rest.push_str(before);
+        text = after.split_once(close).expect("it is closed").1;
+    }
+    rest + text
+}
+
+/// The declarations of a text: between a call's name, which `before` precedes, and `after`.
+fn declared(text: &str, before: &str, after: &str) -> BTreeMap<String, Vec<String>> {
+    let mut calls = BTreeMap::new();
+    for part in text.split(before).skip(1) {
+        let (name, part) = part.split_once('(').expect("a call has arguments");
+        let (arguments, _) = part.split_once(after).expect("and they end");
+        let arguments = arguments.split(',').map(|a| a.split_whitespace());
+        let arguments = arguments.map(|words| words.collect::<Vec<_>>().join(" "));
+        let arguments = arguments.filter(|argument| !argument.is_empty()).collect();
+        assert_eq!(calls.insert(name.to_owned(), arguments), None, "{name}");
+    }
+    calls
+}
+
+/// An argument of the header as Rust writes it.
+fn in_rust(argument: &str) -> String {
+    let (kind, name) = argument.rsplit_once(' ').expect("a type and a name");
+    let (constant, kind) = match kind.strip_prefix("const ") {
+        Some(kind) => (true, kind),
+        None => (false, kind),
+    };
+    let kind = match kind {
+        "uint8_t" => "u8",
+        "uint32_t" => "u32",
+        "size_t" => "usize",
+        _ => panic!("{argument}"),
+    };
+    let pointed = name.strip_prefix('*');
+    let listed = name.split_once('[').map(|(name, _)| name);
+    match (pointed.or(listed), constant) {
+        (Some(name), true) => format!("{name}: *const {kind}"),
+        (Some(name), false) => format!("{name}: *mut {kind}"),
+        (None, false) => format!("{name}: {kind}"),
+        (None, true) => panic!("{argument}"),
+    }
+}
+
+#[test]
+fn the_calls() {
+    let header = without(HEADER, "/*", "*/");
+    let mut header = declared(&header, "\nuint32_t ", ");");
+    for arguments in header.values_mut() {
+        for argument in arguments {
+            *argument = in_rust(argument);
+        }
+    }
+    assert_eq!(header.len(), 11);
+    assert_eq!(header, declared(SYS, "pub fn ", ") -> u32;"));
+}
+
+#[test]
+fn the_numbers() {
+    let defined: Vec<(&str, u32)> = HEADER
+        .lines()
+        .filter_map(|line| line.strip_prefix("#define ")?.split_once(' '))
+        .map(|(name, value)| (name, value.trim_end_matches('u').parse().unwrap()))
+        .collect();
+    assert_eq!(
+        defined,
+        [
+            ("TL_SCAN", tl_rattle::sys::TL_SCAN),
+            ("TL_CLOSED", tl_rattle::sys::TL_CLOSED),
+            ("TL_ROW", tl_rattle::sys::TL_ROW),
+        ]
+    );
+}

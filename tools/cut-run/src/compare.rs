@@ -1,0 +1,474 @@
+//! What the cut theorem compares (`CutOff` in crates/cut/specs/Cut.antt), asked of the compiled calls.
+
+use std::fmt;
+
+use tl_rattle::calls::HeldAt;
+use tl_rattle::{max_nodes, words_for, Refusal};
+
+use crate::questions::Questions;
+use crate::random::Random;
+use crate::reader::{Asked, Reader};
+use crate::rows::Rows;
+
+/// The parts of the statement.
+#[derive(Clone, Copy, Debug, PartialEq, Eq)]
+pub enum Clause {
+    /// both readings are accepted
+    Reading,
+    /// the beginning's tags are the whole page's that are opened before the cut
+    Tags,
+    Start,
+    Name,
+    Parent,
+    /// what a tag answers for an attribute name, with the value's places
+    Attribute,
+    /// the value's bytes
+    Value,
+    Query,
+    Below,
+    /// a tag's descendants are the handles after its own up to its last, in the beginning
+    Descendants,
+    /// and in the whole page
+    DescendantsWhole,
+}
+
+/// Where the two pages' answers differ.
+#[derive(Debug)]
+pub struct Difference {
+    pub clause: Clause,
+    pub cut: usize,
+    pub handle: Option<u32>,
+    pub what: String,
+}
+
+impl fmt::Display for Difference {
+    fn fmt(&self, f: &mut fmt::Formatter<'_>) -> fmt::Result {
+        write!(f, "{:?}, cut at {}", self.clause, self.cut)?;
+        if let Some(handle) = self.handle {
+            write!(f, ", handle {handle}")?;
+        }
+        write!(f, ": {}", self.what)
+    }
+}
+
+/// How much was compared.
+#[derive(Default)]
+pub struct Counts {
+    pub pages: usize,
+    pub bytes: usize,
+    pub cuts: usize,
+    /// tags of beginnings, each with its start, name and parent
+    pub tags: usize,
+    pub absent: usize,
+    pub bare: usize,
+    pub values: usize,
+    pub queries: usize,
+    pub queries_below: usize,
+    pub too_long: usize,
+    pub unread: usize,
+    pub finds: usize,
+    pub finds_below: usize,
+    /// tags whose descendants were compared, and these
+    pub ranges: usize,
+    pub descendants: usize,
+    pub differences: usize,
+}
+
+/// The differences that are kept; all are counted.
+const KEPT: usize = 50;
+
+type Answer = Result<Vec<u32>, Refusal>;
+
+/// A whole page, with its answers so far.
+pub struct Whole<'p, R> {
+    page: &'p [u8],
+    table: Vec<u32>,
+    questions: &'p Questions,
+    reader: &'p R,
+    held: Vec<Option<Result<HeldAt, Refusal>>>,
+    found: Vec<Answer>,
+    below: Vec<Option<Answer>>,
+    // lent to the beginning's calls
+    lent: Vec<u32>,
+    out: Vec<u32>,
+    pub differences: Vec<Difference>,
+}
+
+impl<'p, R: Reader> Whole<'p, R> {
+    /// Reads the page, and asks it each selector.
+    pub fn new(
+        page: &'p [u8],
+        questions: &'p Questions,
+        reader: &'p R,
+        counts: &mut Counts,
+    ) -> Self {
+        let room = max_nodes(page.len());
+        let mut whole = Whole {
+            page,
+            table: vec![0; words_for(room)],
+            questions,
+            reader,
+            held: Vec::new(),
+            found: Vec::new(),
+            below: Vec::new(),
+            lent: vec![0; words_for(room)],
+            out: vec![0; room],
+            differences: Vec::new(),
+        };
+        counts.pages += 1;
+        counts.bytes += page.len();
+        match whole.reader.parse(page, &mut whole.table) {
+            Ok(count) => whole.table.truncate(words_for(count)),
+            Err(refusal) => {
+                whole.differ(counts, Clause::Reading, page.len(), None, || {
+                    format!("the whole page is refused: {refusal}")
+                });
+                // as a page without nodes
+                whole.table = vec![0, 0, page.len() as u32, 8, 8, 0, 0, 0];
+            }
+        }
+        let count = Rows(&whole.table).count() as usize;
+        whole.held = vec![None; count * questions.names.len()];
+        whole.below = vec![None; count * questions.selectors.len()];
+        let asked = Asked {
+            page,
+            table: &whole.table,
+        };
+        for selector in &questions.selectors {
+            let mut out = vec![0; count];
+            let many = whole.reader.query(asked, selector, &mut out);
+            whole.found.push(many.map(|many| {
+                out.truncate(many);
+                out
+            }));
+        }
+        whole.descendants(
+            counts,
+            Clause::DescendantsWhole,
+            page.len(),
+            &whole.table.clone(),
+        );
+        whole
+    }
+
+    fn differ(
+        &mut self,
+        counts: &mut Counts,
+        clause: Clause,
+        cut: usize,
+        handle: Option<u32>,
+        what: impl FnOnce() -> String,
+    ) {
+        counts.differences += 1;
+        if self.differences.len() < KEPT {
+            self.differences.push(Difference {
+                clause,
+                cut,
+                handle,
+                what: what(),
+            });
+        }
+    }
+
+    fn asked(&self) -> Asked<'_> {
+        Asked {
+            page: self.page,
+            table: &self.table,
+        }
+    }
+
+    /// What the whole page's tag holds for the questions' name of this number.
+    fn held(&mut self, handle: u32, name: usize) -> Result<HeldAt, Refusal> {
+        let names = &self.questions.names;
+        let at = handle as usize * names.len() + name;
+        match self.held.get(at) {
+            Some(Some(held)) => *held,
+            slot => {
+                let kept = slot.is_some();
+                let held = self.reader.attribute(self.asked(), handle, &names[name]);
+                if kept {
+                    self.held[at] = Some(held);
+                }
+                held
+            }
+        }
+    }
+
+    /// What the questions' selector of this number finds below the whole page's tag: where in `below` it is kept.
+    fn found_below(&mut self, handle: u32, selector: usize) -> Option<usize> {
+        let selectors = &self.questions.selectors;
+        let at = handle as usize * selectors.len() + selector;
+        if self.below.get(at)?.is_none() {
+            let mut out = vec![0; Rows(&self.table).count() as usize];
+            let many = self
+                .reader
+                .below(self.asked(), handle, &selectors[selector], &mut out);
+            self.below[at] = Some(many.map(|many| {
+                out.truncate(many);
+                out
+            }));
+        }
+        Some(at)
+    }
+
+    /// Compares the page's first `n` bytes, read by `reader`, with the whole page.
+    pub fn cut<B: Reader>(
+        &mut self,
+        n: usize,
+        reader: &B,
+        random: &mut Random,
+        counts: &mut Counts,
+    ) {
+        counts.cuts += 1;
+        let page = self.page;
+        let beginning = &page[..n];
+        let mut lent = std::mem::take(&mut self.lent);
+        match reader.parse(beginning, &mut lent) {
+            Ok(count) => {
+                let table = &lent[..words_for(count)];
+                let asked = Asked {
+                    page: beginning,
+                    table,
+                };
+                let tags = self.tags(counts, asked);
+                self.descendants(counts, Clause::Descendants, n, table);
+                let some = some_of(&tags, self.questions.tags, random);
+                self.attributes(counts, asked, reader, &some);
+                self.queries(counts, asked, reader);
+                let some = some_of(&tags, self.questions.below, random);
+                self.queries_below(counts, asked, reader, &some);
+            }
+            Err(refusal) => self.differ(counts, Clause::Reading, n, None, || {
+                format!("the beginning is refused: {refusal}")
+            }),
+        }
+        self.lent = lent;
+    }
+
+    /// Part 1: the beginning's tags are the whole page's whose opening `>` lies before the cut, each with the same start,
+    /// name and parent.
+    fn tags(&mut self, counts: &mut Counts, asked: Asked<'_>) -> Vec<u32> {
+        let n = asked.page.len();
+        let rows = Rows(asked.table);
+        let table = std::mem::take(&mut self.table);
+        let whole = Rows(&table);
+        let mut tags = Vec::new();
+        for h in 0..rows.count().max(whole.count()) {
+            let is = rows.is_tag(h);
+            let opened = whole.is_tag(h) && whole.opened(h) as usize <= n;
+            if is {
+                tags.push(h);
+            }
+            if is != opened {
+                self.differ(counts, Clause::Tags, n, Some(h), || {
+                    let said = |tag| if tag { "a tag" } else { "no tag" };
+                    let (one, other) = (said(is), said(opened));
+                    format!(
+                        "{one} in the beginning, {other} opened before the cut in the whole page"
+                    )
+                });
+            }
+            if !is || h >= whole.count() {
+                continue;
+            }
+            counts.tags += 1;
+            let start = (rows.start(h), whole.start(h));
+            if start.0 != start.1 {
+                self.differ(counts, Clause::Start, n, Some(h), || {
+                    format!(
+                        "{} in the beginning, {} in the whole page",
+                        start.0, start.1
+                    )
+                });
+            }
+            let name = (rows.name(asked.page, h), whole.name(self.page, h));
+            if name.0.is_none() || name.0 != name.1 {
+                self.differ(counts, Clause::Name, n, Some(h), || {
+                    let said =
+                        |name: Option<&[u8]>| name.map(|name| name.escape_ascii().to_string());
+                    format!("{:?} and {:?}", said(name.0), said(name.1))
+                });
+            }
+            let parent = (rows.parent(h), whole.parent(h));
+            if parent.0 != parent.1 {
+                self.differ(counts, Clause::Parent, n, Some(h), || {
+                    format!("word 6 is {} and {}", parent.0, parent.1)
+                });
+            }
+        }
+        self.table = table;
+        tags
+    }
+
+    /// Part 2: the same answer for every attribute name, and the same value bytes.
+    fn attributes<B: Reader>(
+        &mut self,
+        counts: &mut Counts,
+        asked: Asked<'_>,
+        reader: &B,
+        tags: &[u32],
+    ) {
+        let n = asked.page.len();
+        let questions = self.questions;
+        for &h in tags {
+            for (number, name) in questions.names.iter().enumerate() {
+                let held = reader.attribute(asked, h, name);
+                let whole = self.held(h, number);
+                match held {
+                    Ok(HeldAt::Absent) => counts.absent += 1,
+                    Ok(HeldAt::Bare) => counts.bare += 1,
+                    Ok(HeldAt::Value(..)) => counts.values += 1,
+                    Err(_) => {}
+                }
+                if held != whole || held.is_err() {
+                    self.differ(counts, Clause::Attribute, n, Some(h), || {
+                        format!("{} holds {held:?} and {whole:?}", name.escape_ascii())
+                    });
+                }
+                if let (Ok(HeldAt::Value(start, end)), Ok(HeldAt::Value(from, to))) = (held, whole)
+                {
+                    let value = asked.page.get(start..end);
+                    if value.is_none() || value != self.page.get(from..to) {
+                        self.differ(counts, Clause::Value, n, Some(h), || {
+                            format!("{} has other bytes", name.escape_ascii())
+                        });
+                    }
+                }
+            }
+        }
+    }
+
+    /// Part 3: refused alike, or the same finds among the beginning's tags, over the page.
+    fn queries<B: Reader>(&mut self, counts: &mut Counts, asked: Asked<'_>, reader: &B) {
+        let n = asked.page.len();
+        let questions = self.questions;
+        let mut out = std::mem::take(&mut self.out);
+        for (number, selector) in questions.selectors.iter().enumerate() {
+            let many = reader.query(asked, selector, &mut out);
+            counts.queries += 1;
+            let said = alike(asked, many, &out, &self.found[number]);
+            match said {
+                Ok(finds) => counts.finds += finds,
+                Err(what) => self.differ(counts, Clause::Query, n, None, || {
+                    format!("{}: {what}", selector.escape_ascii())
+                }),
+            }
+            match many {
+                Err(Refusal::SelectorTooLong) => counts.too_long += 1,
+                Err(Refusal::SelectorNotRead) => counts.unread += 1,
+                _ => {}
+            }
+        }
+        self.out = out;
+    }
+
+    /// And below some of the beginning's tags.
+    fn queries_below<B: Reader>(
+        &mut self,
+        counts: &mut Counts,
+        asked: Asked<'_>,
+        reader: &B,
+        tags: &[u32],
+    ) {
+        let n = asked.page.len();
+        let questions = self.questions;
+        let mut out = std::mem::take(&mut self.out);
+        for &h in tags {
+            for (number, selector) in questions.selectors.iter().enumerate() {
+                let many = reader.below(asked, h, selector, &mut out);
+                counts.queries_below += 1;
+                let said = match self.found_below(h, number) {
+                    Some(at) => {
+                        let whole = self.below[at].as_ref().expect("it was asked");
+                        alike(asked, many, &out, whole)
+                    }
+                    None => Err("the whole page has no such row".to_owned()),
+                };
+                match said {
+                    Ok(finds) => counts.finds_below += finds,
+                    Err(what) => self.differ(counts, Clause::Below, n, Some(h), || {
+                        format!("{}: {what}", selector.escape_ascii())
+                    }),
+                }
+            }
+        }
+        self.out = out;
+    }
+
+    /// Part 4: a tag's descendants, by going from parent to parent, are the handles after its own up to its last.
+    fn descendants(&mut self, counts: &mut Counts, clause: Clause, cut: usize, table: &[u32]) {
+        let rows = Rows(table);
+        // of each row: how many descend from it, the lowest and the highest of them
+        let mut below = vec![(0u32, u32::MAX, 0u32); rows.count() as usize];
+        for d in (0..rows.count()).rev() {
+            let (many, lowest, highest) = below[d as usize];
+            let Some(parent) = rows.parent(d).checked_sub(1) else {
+                continue;
+            };
+            if parent >= d {
+                // then one of the two would descend from itself, or from a row that comes after it
+                self.differ(counts, clause, cut, Some(d), || {
+                    format!("its parent is {parent}")
+                });
+                continue;
+            }
+            let above = &mut below[parent as usize];
+            above.0 += many + 1;
+            above.1 = above.1.min(lowest).min(d);
+            above.2 = above.2.max(highest).max(d);
+        }
+        for h in 0..rows.count() {
+            if !rows.is_tag(h) {
+                continue;
+            }
+            let (many, lowest, highest) = below[h as usize];
+            let last = rows.last(h);
+            counts.ranges += 1;
+            counts.descendants += many as usize;
+            // as many rows as lie between the lowest and the highest are all of these
+            let range = u64::from(h) + u64::from(many) == u64::from(last);
+            if !range || many > 0 && (lowest != h + 1 || highest != last) {
+                self.differ(counts, clause, cut, Some(h), || {
+                    format!("last is {last}; {many} descend, from {lowest} to {highest}")
+                });
+            }
+        }
+    }
+}
+
+/// All tags; or so many of them, the latest and others by chance.
+fn some_of(tags: &[u32], many: usize, random: &mut Random) -> Vec<u32> {
+    if tags.len() <= many {
+        return tags.to_vec();
+    }
+    let latest = tags[tags.len() - many.div_ceil(4)..].iter().copied();
+    let others = (0..many - many.div_ceil(4)).map(|_| *random.of(tags));
+    latest.chain(others).collect()
+}
+
+/// Two answers of a query: refused alike, or with the same finds among the beginning's tags, and then how many these are.
+fn alike(
+    asked: Asked<'_>,
+    many: Result<usize, Refusal>,
+    out: &[u32],
+    whole: &Answer,
+) -> Result<usize, String> {
+    let rows = Rows(asked.table);
+    match (many, whole) {
+        (Ok(many), Ok(found)) => {
+            let only = |handle: &&u32| rows.is_tag(**handle);
+            if out[..many]
+                .iter()
+                .filter(only)
+                .eq(found.iter().filter(only))
+            {
+                Ok(out[..many].iter().filter(only).count())
+            } else {
+                Err(format!("finds {:?} and {found:?}", &out[..many]))
+            }
+        }
+        // with the room that is lent, no answer is longer than its buffer
+        (Err(one), Err(other)) if one == *other && one != Refusal::BufferTooShort => Ok(0),
+        (one, other) => Err(format!("answers {one:?} and {other:?}")),
+    }
+}
