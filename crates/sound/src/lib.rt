@@ -1,31 +1,152 @@
 // Whether a table of arbitrary words is sound for a page of `len` bytes, in time linear in the rows.
 use rules::Node;
 ghost use mathlib.Core.Path.{_≡_};
-ghost use Prim.Native.Nat.{ℕ, _+_, _-_, _≤_, _<_};
+ghost use Prim.Native.Nat.{ℕ, _≤_, _<_};
 ghost use lib.ListN.{length};
-ghost use Rattle.rules.specs.Table.{headWords, rowWords, rowAt, nodeAt};
-ghost use Rattle.rules.specs.Sound.{placesSound, headSound, parentAt, nested, rowSound, sound, all};
+ghost use Rattle.rules.specs.Table.{headWords, rowAt, nodeAt};
+ghost use Rattle.rules.specs.Sound.{placesSound, headSound, parentAt, rowSound, sound, all};
+ghost use Rattle.sound.specs.Row.{ownSound, underSound, Starts, nextOf};
+
+// ---- a row by itself
+
+// The places of a tag, in order: so its start is not after its end.
+fn tag_places(n: Node, len: usize) -> bool
+    requires { ⌜ n .kind ≡ 1 ⌝ }
+    ensures { λ r. ⌜ r ≡ placesSound len n ⌝ }
+{
+    let end = n.end as usize;
+    (n.start < n.name)
+        & (n.name <= n.stop)
+        & (n.stop < n.opened)
+        & (n.opened <= n.end)
+        & (end <= len)
+}
+
+// Kind and places of another node.
+fn other_places(n: Node, len: usize) -> bool
+    requires { ⌜ (n .kind ≡ 1 → ⊥) ⌝ }
+    ensures { λ r. ⌜ r ≡ placesSound len n ⌝ }
+{
+    let end = n.end as usize;
+    (1 <= n.kind)
+        & (n.kind <= 3)
+        & (n.start <= n.end)
+        & (end <= len)
+        & (n.name == 0)
+        & (n.stop == 0)
+        & (n.opened == 0)
+}
+
+// What row h says of itself. The last of another node than a tag is h, which is below the count.
+fn own_sound(n: Node, len: usize, count: usize, h: usize) -> bool
+    requires { ⌜ h < count ⌝ }
+    ensures { λ r. ⌜ r ≡ ownSound len count h n ⌝ }
+{
+    let last = n.last as usize;
+    if n.kind == 1 {
+        if last < h {
+            return false;
+        }
+        if count <= last {
+            return false;
+        }
+        return tag_places(n, len);
+    }
+    if last != h {
+        return false;
+    }
+    other_places(n, len)
+}
+
+// ---- a row and its parent
+
+// The greatest handle below h whose last reaches h, plus 1, or 0. It climbs from row `from` - 1 through parents, which are
+// right below h: the rows between a row and its parent end before that row, so they cannot reach h either.
+fn climb(table: &[u32], h: usize, from: usize) -> usize
+    requires { ⌜ (rowAt h ≤ length (now table)) × Starts (now table) h from ⌝ }
+    requires { ⌜ ((j : ℕ) → j < h → nodeAt (now table) j .parent ≡ parentAt (now table) j) ⌝ }
+    ensures { λ r. ⌜ (r ≡ parentAt (now (table .entry)) h) × (r ≤ h) ⌝ }
+{
+    let mut p = from;
+    while 0 < p {
+        let k = p - 1;
+        let n = table::row_at(table, k);
+        let last = n.last as usize;
+        if h <= last {
+            return p;
+        }
+        p = n.parent as usize;
+    }
+    0
+}
+
+// What a node says of its parent, where p is that one's handle plus 1, or 0.
+fn under(table: &[u32], n: Node, p: usize) -> bool
+    requires { ⌜ rowAt p ≤ length (now table) ⌝ }
+    ensures { λ r. ⌜ r ≡ underSound (now (table .entry)) p n ⌝ }
+{
+    let parent = n.parent as usize;
+    if parent != p {
+        return false;
+    }
+    if p == 0 {
+        return true;
+    }
+    let k = p - 1;
+    let m = table::row_at(table, k);
+    n.last <= m.last
+}
+
+// What a row leaves for the next one: where that one's climb starts; or the row is not sound.
+enum Next {
+    From(usize),
+    Unsound,
+}
+
+// Row h, whose climb starts at `from`. The next row may lie in h if that is a tag, and else in no row after the parent of h.
+fn row_sound(table: &[u32], len: usize, count: usize, h: usize, from: usize) -> Next
+    requires { ⌜ (h < count) × (rowAt count ≤ length (now table)) × Starts (now table) h from ⌝ }
+    requires { ⌜ ((j : ℕ) → j < h → nodeAt (now table) j .parent ≡ parentAt (now table) j) ⌝ }
+    ensures { λ r. ⌜ r ≡ nextOf len (now (table .entry)) count h ⌝ }
+{
+    let n = table::row_at(table, h);
+    if !own_sound(n, len, count, h) {
+        return Next::Unsound;
+    }
+    let p = climb(table, h, from);
+    if !under(table, n, p) {
+        return Next::Unsound;
+    }
+    if n.kind == 1 {
+        return Next::From(h + 1);
+    }
+    Next::From(p)
+}
+
+// All rows.
+fn rows_sound(table: &[u32], len: usize, count: usize) -> bool
+    requires { ⌜ rowAt count ≤ length (now table) ⌝ }
+    ensures { λ r. ⌜ r ≡ all (rowSound len (now (table .entry)) count) count ⌝ }
+{
+    let mut from = 0;
+    let mut h = 0;
+    while h < count {
+        let Next::From(next) = row_sound(table, len, count, h, from) else {
+            return false;
+        };
+        from = next;
+        h += 1;
+    }
+    true
+}
+
+// ---- the table
 
 // A header word as a number of bytes or rows.
 fn wide(word: u32) -> usize
     ensures { λ r. ⌜ r ≡ word ⌝ }
 {
     word as usize
-}
-
-// Kind and places of a node.
-fn places_sound(n: Node, len: usize) -> bool
-    ensures { λ r. ⌜ r ≡ placesSound len n ⌝ }
-{
-    let tag = n.kind == 1;
-    let end = n.end as usize;
-    (1 <= n.kind)
-        & (n.kind <= 3)
-        & (n.start <= n.end)
-        & (end <= len)
-        & (!tag
-            | (n.start < n.name) & (n.name <= n.stop) & (n.stop < n.opened) & (n.opened <= n.end))
-        & (tag | (n.name == 0) & (n.stop == 0) & (n.opened == 0))
 }
 
 // The header's words but the count.
@@ -40,78 +161,6 @@ fn head_sound(table: &[u32], len: usize) -> bool
         & (table[5] == 0)
         & (table[6] == 0)
         & (table[7] == 0)
-}
-
-// The greatest handle below h whose last reaches h, plus 1, or 0. It climbs from row h - 1 through parents, which are right
-// below h: the rows between a row and its parent end before that row, so they cannot reach h either.
-fn climb(table: &[u32], h: usize) -> usize
-    requires { ⌜ rowAt h ≤ length (now table) ⌝ }
-    requires { ⌜ ((j : ℕ) → j < h → nodeAt (now table) j .parent ≡ parentAt (now table) j) ⌝ }
-    ensures { λ r. ⌜ (r ≡ parentAt (now (table .entry)) h) × (r ≤ h) ⌝ }
-{
-    let mut p = h;
-    while 0 < p {
-        let k = p - 1;
-        let n = table::row_at(table, k);
-        let last = n.last as usize;
-        if h <= last {
-            return p;
-        }
-        p = n.parent as usize;
-    }
-    0
-}
-
-// The parent's handle; without a parent row 0, whose last is then not asked for.
-fn before(p: usize) -> usize
-    ensures { λ r. ⌜ r ≡ p - 1 ⌝ }
-{
-    if p == 0 {
-        return 0;
-    }
-    p - 1
-}
-
-// A node at row h of count, with its parent plus 1 and that one's last.
-fn is_nested(count: usize, h: usize, n: Node, p: usize, above: u32) -> bool
-    ensures { λ r. ⌜ r ≡ nested count h n p above ⌝ }
-{
-    let last = n.last as usize;
-    let parent = n.parent as usize;
-    (h <= last)
-        & (last < count)
-        & ((n.kind == 1) | (last == h))
-        & (parent == p)
-        & ((p == 0) | (n.last <= above))
-}
-
-// Row h.
-fn row_sound(table: &[u32], len: usize, count: usize, h: usize) -> bool
-    requires { ⌜ rowAt h + rowWords ≤ length (now table) ⌝ }
-    requires { ⌜ ((j : ℕ) → j < h → nodeAt (now table) j .parent ≡ parentAt (now table) j) ⌝ }
-    ensures { λ r. ⌜ r ≡ rowSound len (now (table .entry)) count h ⌝ }
-{
-    let n = table::row_at(table, h);
-    let p = climb(table, h);
-    let k = before(p);
-    let m = table::row_at(table, k);
-    let above = m.last;
-    places_sound(n, len) & is_nested(count, h, n, p, above)
-}
-
-// All rows.
-fn rows_sound(table: &[u32], len: usize, count: usize) -> bool
-    requires { ⌜ rowAt count ≤ length (now table) ⌝ }
-    ensures { λ r. ⌜ r ≡ all (rowSound len (now (table .entry)) count) count ⌝ }
-{
-    let mut h = 0;
-    while h < count {
-        if !row_sound(table, len, count, h) {
-            return false;
-        }
-        h += 1;
-    }
-    true
 }
 
 // Whether the table is sound for a page of len bytes.

@@ -12,10 +12,13 @@ use Rattle.sound.proofs.climb.Statement.{statement}
 use Rattle.sound.proofs.climb.Tie as tie
 
 abbrev Inv-loop : tie.InvT-loop
-Inv-loop table h p₀ p = (p ≤ h) × (reaching (lastAt table) h p ≡ parentAt table h)
+Inv-loop table h from p₀ p = (p ≤ h) × (reaching (lastAt table) h p ≡ parentAt table h)
 
 abbrev μ-loop : tie.MeasureT-loop
-μ-loop table h p₀ p = p
+μ-loop table h from p₀ p = p
+
+loop-holds : tie.Need-loop-holds Inv-loop μ-loop
+loop-holds c = let start = c .before .pre .0 .1 in (start .low, start .same)
 
 -- the row p - 1 reaches h
 returns : tie.Need-returns Inv-loop μ-loop
@@ -72,5 +75,5 @@ returns-2 c =
 pub climb-spec : {M : Type 1} → statement M
 climb-spec =
     tie.close
-    (tie.spec Inv-loop μ-loop (λ c. search needs) (λ c. search needs) (λ c κs. search needs) (λ c. search needs)
+    (tie.spec Inv-loop μ-loop loop-holds (λ c. search needs) (λ c κs. search needs) (λ c. search needs)
     returns (λ c. search needs) loop-less loop-again returns-2)

@@ -1,0 +1,102 @@
+-- The parts of a row's test, put together.
+--     tag-places, other-places    the places of a tag, and of another node
+--     own-not, own-places         what a row says of itself
+--     next-is                     what a row leaves for the next one
+--     next-not, next-from         what that says of the row, and of the next row's climb
+use mathlib.Core.Path.{_≡_, refl, sym, ap, _∙_}
+use mathlib.Core.Bool.{Bool, true, false, _&&_, _||_, and-true, and-false, and-assoc}
+use mathlib.Core.List.{List}
+use Prim.Native.Nat.{ℕ, _+_}
+use native.Mathlib.Numerals.{add-one}
+use native.Mathlib.Omega.{arith}
+use borrow.Author.Tests.{ltb-true, leb-true, eqb-false, le-leb, ne-eqb}
+use lib.Dec.{leb, ltb, eqb}
+use Rattle.rules.specs.Scan.{pick}
+use Rattle.rules.specs.Table.{nodeAt}
+use Rattle.rules.specs.declared.Node.{Node}
+use Rattle.rules.specs.Sound.{tagged, placesSound, lastAt, reaching, parentAt, rowSound}
+use Rattle.rules.proofs.Sound.{and-left, and-right, sound-row, climb-step, reaching-le}
+use Rattle.sound.specs.declared.Next.{Next}
+use Rattle.sound.specs.declared.Next.the-variants.{From, Unsound}
+use Rattle.sound.specs.Row.{ownSound, underSound, Starts, nextOf}
+
+-- ---- a row by itself
+
+-- a test t from which the test s follows
+implied : (t s e : Bool) → (t ≡ true → s ≡ true) → (t && e) ≡ (s && e && t && true)
+implied true true true f = refl
+implied true true false f = refl
+implied true false e f = let z : false ≡ true = f refl in cc
+implied false s e f = rw and-false
+
+-- a tag's places are in order, so its start is not after its end
+ordered : (a b c d e : ℕ) → (ltb a b && leb b c && ltb c d && leb d e) ≡ true → leb a e ≡ true
+ordered a b c d e t =
+    let abcd = and-left (ltb a b && leb b c && ltb c d) (leb d e) t in
+    let abc = and-left (ltb a b && leb b c) (ltb c d) abcd in
+    let ab = ltb-true a b (and-left (ltb a b) (leb b c) abc) in
+    let bc = leb-true b c (and-right (ltb a b) (leb b c) abc) in
+    let cd = ltb-true c d (and-right (ltb a b && leb b c) (ltb c d) abcd) in
+    let de = leb-true d e (and-right (ltb a b && leb b c && ltb c d) (leb d e) t) in
+    le-leb a e (omega arith)
+
+module _ (len : ℕ) (n : Node) where
+  pub tag-places : n .kind ≡ 1
+      → (ltb (n .start) (n .name) && leb (n .name) (n .stop) && ltb (n .stop) (n .opened) && leb (n .opened) (n .end) && leb (n .end) len)
+      ≡ placesSound len n
+  tag-places k =
+      let inner = ltb (n .start) (n .name) && leb (n .name) (n .stop) && ltb (n .stop) (n .opened) && leb (n .opened) (n .end) in
+      rw k (implied inner (leb (n .start) (n .end)) (leb (n .end) len) (ordered (n .start) (n .name) (n .stop) (n .opened) (n .end)))
+
+  pub other-places : (n .kind ≡ 1 → ⊥)
+      → (leb 1 (n .kind) && leb (n .kind) 3 && leb (n .start) (n .end) && leb (n .end) len && eqb (n .name) 0 && eqb (n .stop) 0 && eqb (n .opened) 0)
+      ≡ placesSound len n
+  other-places k = rw (ne-eqb (n .kind) 1 k) (simp (and-true, and-assoc))
+
+module _ (len count h : ℕ) (n : Node) where
+  abbrev lastSound : Bool
+  lastSound = leb h (n .last) && ltb (n .last) count && (tagged n || eqb (n .last) h)
+
+  -- the last is not right
+  pub own-not : lastSound ≡ false → false ≡ ownSound len count h n
+  own-not e = rw (e, and-false)
+
+  -- it is right, and the places decide
+  pub own-places : (r : Bool) → r ≡ placesSound len n → lastSound ≡ true → r ≡ ownSound len count h n
+  own-places r p e = rw (e, ← p, and-true)
+
+-- ---- a row and its parent
+
+module _ (len : ℕ) (ws : List ℕ) (count h : ℕ) where
+  row-is : rowSound len ws count h ≡ (ownSound len count h (nodeAt ws h) && underSound ws (parentAt ws h) (nodeAt ws h))
+  row-is = simp and-assoc
+
+  -- by the node n, its parent p, and the three tests at their values
+  pub next-is : (n : Node) (p : ℕ) → n ≡ nodeAt ws h → p ≡ parentAt ws h → {a b c : Bool}
+      → ownSound len count h n ≡ a → underSound ws p n ≡ b → tagged n ≡ c
+      → pick (a && b) (From (pick c (h + 1) p)) Unsound ≡ nextOf len ws count h
+  next-is n p en ep ea eb ec = rw (row-is, ← en, ← ep, ea, eb, ec)
+
+  pub next-not : (r : Next) → r ≡ nextOf len ws count h → r ≡ Unsound → rowSound len ws count h ≡ false
+  next-not r e u = go (rowSound len ws count h) _ (sym e ∙ u)
+    where
+      go : (b : Bool) (f : ℕ) → pick b (From f) Unsound ≡ Unsound → b ≡ false
+      go true f e = cc
+      go false f e = refl
+
+  -- after a tag the climb starts at the row before, after another node at its parent, as if it had climbed there (`climb-step`)
+  starts : (c : Bool) (f : ℕ) → tagged (nodeAt ws h) ≡ c → rowSound len ws count h ≡ true → pick c (h + 1) (parentAt ws h) ≡ f
+      → Starts ws (h + 1) f
+  starts true f t s e = record { low = omega arith; same = ap (reaching (lastAt ws) (h + 1)) (sym e) }
+  starts false f t s e =
+      let own : lastAt ws h ≡ h = sound-row len ws count h s .leaf (eqb-false (nodeAt ws h .kind) 1 t) in
+      let step = climb-step (lastAt ws) (h + 1) h f (omega arith) (omega arith) (sym e) in
+      record { low = omega (arith, reaching-le (lastAt ws) h h); same = step ∙ ap (reaching (lastAt ws) (h + 1)) (sym (add-one h)) }
+
+  pub next-from : (r : Next) (f : ℕ) → r ≡ nextOf len ws count h → r ≡ From f → (rowSound len ws count h ≡ true) × Starts ws (h + 1) f
+  next-from r f e g = go (rowSound len ws count h) refl (sym e ∙ g)
+    where
+      go : (b : Bool) → rowSound len ws count h ≡ b → pick b (From (pick (tagged (nodeAt ws h)) (h + 1) (parentAt ws h))) Unsound ≡ From f
+          → (rowSound len ws count h ≡ true) × Starts ws (h + 1) f
+      go true s e = (s, starts (tagged (nodeAt ws h)) f refl s (cc))
+      go false s e = let z : _≡_ {A = ℕ} 0 1 = cc in absurd (omega arith)
