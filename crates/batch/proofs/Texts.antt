@@ -1,15 +1,16 @@
--- Writing the texts of a list of handles, where it is not known before whether all of them fit.
-use mathlib.Core.Path.{_≡_, refl, ap, sym, _∙_}
+-- The texts of a list of handles, and where each ends.
+use mathlib.Core.Path.{_≡_, refl, sym}
 use mathlib.Core.List.{List, [], _∷_, _++_}
 use Prim.Native.Nat.{ℕ, _+_, _≤_, _<_}
 use native.Mathlib.Omega.{arith}
-use lib.ListN.{length, drop, getD, set, length-append, drop-of-length-le}
+use lib.ListN.{length, drop, getD, set, drop-of-length-le}
 use Rattle.rules.specs.Lists.{each}
 use Rattle.rules.specs.Buffers.{Wrote}
 use Rattle.rules.specs.Batch.{endsFrom}
-use Rattle.rules.proofs.Buffers.{Left, left-all, left-room, left-more, left-none, length-put}
-use Rattle.batch.proofs.Handles.{next, each-next, each-end, left-next, left-end, written}
+use Rattle.rules.proofs.Buffers.{Left, left-all, left-room, left-more, left-none}
+use Rattle.batch.proofs.Handles.{next, each-next, each-end, written}
 use Rattle.batch.proofs.Stores.{wrote-sets}
+use Rattle.batch.proofs.Fitting.{Fitting, fitting-all, fitting-short, fitting-more, fitting-fits, fitting-none}
 
 module _ (T : ℕ → List ℕ) where
   length-ends : (at : ℕ) (hs : List ℕ) → length (endsFrom at T hs) ≡ length hs
@@ -20,19 +21,13 @@ module _ (T : ℕ → List ℕ) where
   module _ (hs : List ℕ) where
     -- the texts of the first i handles stand in the lent bytes b₀, which are now b, up to `at`, and their ends in e₀, now e
     pub record Texts (e₀ b₀ : List ℕ) (i at : ℕ) (e b : List ℕ) : Type 0 where
-      pub size : length b ≡ length b₀
-      pub room : at ≤ length b₀
-      pub rest : at + length (each T (drop i hs)) ≡ length (each T hs)
-      pub bytes : length (each T hs) ≤ length b₀ → Left b₀ 0 (each T hs) b at (each T (drop i hs))
+      pub bytes : Fitting b₀ 0 (each T hs) b at (each T (drop i hs))
       pub ends : Left e₀ 0 (endsFrom 0 T hs) e i (endsFrom at T (drop i hs))
 
     pub texts-none : (e b : List ℕ) → length hs ≤ length e → Texts e b 0 0 e b
     texts-none e b l =
         record {
-          size = refl;
-          room = omega arith;
-          rest = omega arith;
-          bytes = λ m. left-all b 0 (each T hs) (omega arith);
+          bytes = fitting-all b 0 (each T hs) (omega arith);
           ends = left-all e 0 (endsFrom 0 T hs) (omega (arith, length-ends 0 hs));
         }
 
@@ -41,12 +36,10 @@ module _ (T : ℕ → List ℕ) where
         abbrev text : List ℕ
         text = T (getD hs i 0)
 
-        rest-next : length (each T (drop i hs)) ≡ length text + length (each T (drop (i + 1) hs))
-        rest-next = ap length (each-next hs i T l) ∙ length-append text (each T (drop (i + 1) hs))
-
         -- the next text does not fit
         pub texts-short : length b < at + length text → length b₀ < length (each T hs)
-        texts-short s = omega (arith, t .rest, t .size, rest-next)
+        texts-short s =
+            omega (arith, fitting-short (t .bytes) text (each T (drop (i + 1) hs)) (each-next hs i T l) s)
 
         ends-next : endsFrom at T (drop i hs) ≡ (at + length text) ∷ endsFrom (at + length text) T (drop (i + 1) hs)
         unfolding endsFrom
@@ -59,20 +52,17 @@ module _ (T : ℕ → List ℕ) where
             let more : List ℕ = endsFrom x T (drop (i + 1) hs) in
             let q : endsFrom at T (drop i hs) ≡ x ∷ more = rw p at ends-next in
             record {
-              size = ap length (w .buffer) ∙ length-put b at text s ∙ t .size;
-              room = omega (arith, t .size);
-              rest = omega (arith, t .rest, rest-next);
-              bytes = λ f. left-next hs i T (t .bytes f) l w;
+              bytes = fitting-more (t .bytes) text (each T (drop (i + 1) hs)) (each-next hs i T l) w s;
               ends = left-more (t .ends) (x ∷ []) more q (wrote-sets e i (x ∷ []) (left-room (t .ends) (x ∷ []) more q));
             }
 
       -- all were written
       module _ (l : length hs ≤ i) where
         pub texts-fit : length (each T hs) ≤ length b₀
-        texts-fit = omega (arith, t .rest, t .room, ap length (each-end hs i T l))
+        texts-fit = omega (arith, fitting-fits (t .bytes) (each-end hs i T l))
 
         pub texts-bytes : b ≡ each T hs ++ drop (length (each T hs)) b₀
-        texts-bytes = left-end hs i T (t .bytes texts-fit) l
+        texts-bytes = written (fitting-none (t .bytes) (each-end hs i T l))
 
         ends-end : endsFrom at T (drop i hs) ≡ []
         unfolding endsFrom

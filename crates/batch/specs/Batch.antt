@@ -1,13 +1,15 @@
 -- What is known of a list of handles once refusals 1, 3 and 4 are past, and what is promised of the buffers.
-use mathlib.Core.Bool.{Bool, false}
+use mathlib.Core.Bool.{Bool, false, _||_}
 use mathlib.Core.Path.{_≡_}
-use mathlib.Core.List.{List}
+use mathlib.Core.List.{List, []}
 use Prim.Native.Nat.{ℕ, _+_, _≤_, _<_}
-use lib.ListN.{length}
+use lib.Dec.{ltb}
+use lib.ListN.{length, getD}
 use Rattle.rules.specs.Scan.{pick}
+use Rattle.rules.specs.Text.{textAt}
 use Rattle.rules.specs.Buffers.{Wrote}
-use Rattle.rules.specs.Refusals.{asking, notATag}
-use Rattle.rules.specs.Batch.{some}
+use Rattle.rules.specs.Refusals.{asking, notATag, filledBy}
+use Rattle.rules.specs.Batch.{some, textsFound, endsFound}
 use Rattle.rules.specs.declared.Refusal.the-variants.{NotATag, BufferTooShort}
 use Rattle.rules.specs.declared.Checked.{Checked}
 use Rattle.rules.specs.declared.Checked.the-variants.{Fine, Refused}
@@ -36,8 +38,33 @@ pub record FilledBoth (answer : Counted) (places bytes : List ℕ) (r : Counted)
   pub ends-left : ends ≡ places
   pub out-left : out ≡ bytes
 
+-- what the texts of the handles leave in the lent places e and bytes b; `few`: there are too few places
+module _ (p ws hs e b : List ℕ) where
+  abbrev pub TextsLeft : Bool → Counted → List ℕ → List ℕ → Type 0
+  TextsLeft few r ends out =
+      FilledBoth
+      (unless (few || ltb (length b) (length (textsFound p ws hs))) (length hs))
+      (filledBy e (endsFound p ws hs) r)
+      (filledBy b (textsFound p ws hs) r)
+      r
+      ends
+      out
+
 -- the text s was written into the lent bytes b from `at` on, or there is no room for it
 pub record Puts (s b : List ℕ) (at : ℕ) (r : Put) (out : List ℕ) : Type 0 where
   pub size : length out ≡ length b
   pub until : (e : ℕ) → r ≡ Until e → Wrote b at s out e × (at + length s ≤ length b)
   pub short : r ≡ Short → length b < at + length s
+
+-- no row from a up to e has text
+abbrev pub NoText : List ℕ → List ℕ → ℕ → ℕ → Type 0
+NoText p ws a e = (j : ℕ) → a ≤ j → j < e → textAt p ws j ≡ []
+
+-- where to look for text from row k on: what is filled in for k, or k itself
+abbrev pub nextText : List ℕ → ℕ → ℕ
+nextText skip k = pick (ltb k (length skip)) (getD skip k 0) k
+
+-- what is filled in leaves no text out
+pub record Skips (p ws skip : List ℕ) : Type 0 where
+  pub later : (k : ℕ) → k < length skip → k ≤ getD skip k 0
+  pub none : (k : ℕ) → k < length skip → NoText p ws k (getD skip k 0)

@@ -4,7 +4,7 @@ use rules::Counted;
 use rules::Held;
 use rules::Refusal;
 ghost use mathlib.Core.Path.{_≡_};
-ghost use mathlib.Core.Bool.{true, not, _||_};
+ghost use mathlib.Core.Bool.{true, false, not};
 ghost use mathlib.Core.List.{[], _∷_, _++_};
 ghost use Prim.Native.Nat.{_+_, _*_, _≤_, _<_};
 ghost use lib.Dec.{ltb};
@@ -14,10 +14,15 @@ ghost use Rattle.rules.specs.Sound.{countOf, sound};
 ghost use Rattle.rules.specs.Text.{innerText};
 ghost use Rattle.rules.specs.Refusals.{pageLimit, notATag, heldNumbers, filledBy};
 ghost use Rattle.rules.specs.Buffers.{Wrote};
-ghost use Rattle.rules.specs.Batch.{some, attributesFound, attributesAnswer, attributesBuffer, textsFound, endsFound, textsAnswer, textsBuffer, endsBuffer};
+ghost use Rattle.rules.specs.Batch.{some, attributesFound, attributesAnswer, attributesBuffer, textsAnswer, textsBuffer, endsBuffer};
 ghost use Rattle.rules.proofs.Lookup.{Inside};
 ghost use Rattle.calls.specs.Calls.{Filled};
-ghost use Rattle.batch.specs.Batch.{tagsChecked, Tags, unless, FilledBoth, Puts};
+ghost use Rattle.batch.specs.Batch.{tagsChecked, Tags, unless, FilledBoth, TextsLeft, Skips, nextText, Puts};
+
+// The most rows that a page has, and rows enough for a short one, for which less is cleared.
+const ROWS: usize = 43691;
+
+const FEW: usize = 4096;
 
 // ---- the checks that come before the answers
 
@@ -161,6 +166,36 @@ fn refuse_texts(ends: &mut [usize], out: &mut [u8], why: Refusal) -> Counted
     Counted::Refused(why)
 }
 
+// ---- `skip` holds for each of the first rows the lowest row from it on that has text: tags that lie in each other would else be
+// walked through once for each of them
+
+// Fills `skip`, from its last row down.
+fn fill_skips(page: &[u8], table: &[u32], skip: &mut [u32])
+    requires { ⌜ (sound (length (now page)) (now table) ≡ true) × (length (now skip) ≤ countOf (now table)) ⌝ }
+    ensures { λ _. ⌜ Skips (now (page .entry)) (now (table .entry)) (now (skip .exit)) ⌝ }
+{
+    let mut next = skip.len();
+    let mut k = skip.len();
+    while 0 < k {
+        k -= 1;
+        let n = table::row_at(table, k);
+        if tag::text_size(page, n) != 0 {
+            next = k;
+        }
+        skip[k] = next as u32;
+    }
+}
+
+// Where to look for text from row k on: beyond the filled rows, in each.
+fn next_text(skip: &[u32], k: usize) -> usize
+    ensures { λ r. ⌜ r ≡ nextText (now (skip .entry)) k ⌝ }
+{
+    if k < skip.len() {
+        return skip[k] as usize;
+    }
+    k
+}
+
 // The place after a text that was written, or there is no room for it.
 enum Put {
     Until(usize),
@@ -168,19 +203,89 @@ enum Put {
 }
 
 // Writes the inner text of h from `at` on.
-fn put_text(page: &[u8], table: &[u32], h: usize, out: &mut [u8], at: usize) -> Put
-    requires { ⌜ (sound (length (now page)) (now table) ≡ true) × (h < countOf (now table)) × (at ≤ length (now out)) ⌝ }
+fn put_text(page: &[u8], table: &[u32], skip: &[u32], h: usize, out: &mut [u8], at: usize) -> Put
+    requires { ⌜ (sound (length (now page)) (now table) ≡ true) × Skips (now page) (now table) (now skip) ⌝ }
+    requires { ⌜ (h < countOf (now table)) × (at ≤ length (now out)) ⌝ }
     ensures { λ r. ⌜ Puts (innerText (now (page .entry)) (now (table .entry)) h) (now (out .entry)) at r (now (out .exit)) ⌝ }
 {
-    let size = tag::text_length(page, table, h);
-    if out.len() - at < size {
-        return Put::Short;
+    let n = table::row_at(table, h);
+    let last = n.last as usize;
+    let mut i = at;
+    let mut k = next_text(skip, h + 1);
+    while k <= last {
+        let n = table::row_at(table, k);
+        let size = tag::text_size(page, n);
+        if out.len() - i < size {
+            return Put::Short;
+        }
+        i = tag::put_text(page, n, out, i);
+        k = next_text(skip, k + 1);
     }
-    Put::Until(tag::flat_text(page, table, h, out, at))
+    Put::Until(i)
 }
 
 // Writes the inner texts one after the other, and where each ends.
 fn put_texts(
+    page: &[u8],
+    table: &[u32],
+    skip: &[u32],
+    handles: &[u32],
+    ends: &mut [usize],
+    out: &mut [u8],
+) -> Counted
+    requires { ⌜ Tags (now page) (now table) (now handles) × Skips (now page) (now table) (now skip) ⌝ }
+    requires { ⌜ length (now handles) ≤ length (now ends) ⌝ }
+    ensures { λ r. ⌜
+        TextsLeft (now (page .entry)) (now (table .entry)) (now (handles .entry)) (now (ends .entry)) (now (out .entry))
+        false r (now (ends .exit)) (now (out .exit))
+        ⌝ }
+{
+    let mut at = 0;
+    let mut i = 0;
+    while i < handles.len() {
+        let h = handles[i] as usize;
+        let Put::Until(end) = put_text(page, table, skip, h, out, at) else {
+            return refuse_texts(ends, out, Refusal::BufferTooShort);
+        };
+        ends[i] = end;
+        at = end;
+        i += 1;
+    }
+    Counted::Count(i)
+}
+
+// The same, with `skip` to be filled first.
+fn skip_texts(
+    page: &[u8],
+    table: &[u32],
+    skip: &mut [u32],
+    handles: &[u32],
+    ends: &mut [usize],
+    out: &mut [u8],
+) -> Counted
+    requires { ⌜ Tags (now page) (now table) (now handles) × (length (now skip) ≤ countOf (now table)) ⌝ }
+    requires { ⌜ length (now handles) ≤ length (now ends) ⌝ }
+    ensures { λ r. ⌜
+        TextsLeft (now (page .entry)) (now (table .entry)) (now (handles .entry)) (now (ends .entry)) (now (out .entry))
+        false r (now (ends .exit)) (now (out .exit))
+        ⌝ }
+{
+    fill_skips(page, table, skip);
+    put_texts(page, table, skip, handles, ends, out)
+}
+
+// The lower of two numbers.
+fn lower(a: usize, b: usize) -> usize
+    ensures { λ r. ⌜ (r ≤ a) × (r ≤ b) ⌝ }
+{
+    if a < b {
+        return a;
+    }
+    b
+}
+
+// The same, with a `skip` for all rows, or for as many as a page has.
+fn walk_texts(
     page: &[u8],
     table: &[u32],
     handles: &[u32],
@@ -189,27 +294,18 @@ fn put_texts(
 ) -> Counted
     requires { ⌜ Tags (now page) (now table) (now handles) × (length (now handles) ≤ length (now ends)) ⌝ }
     ensures { λ r. ⌜
-        (let p = now (page .entry) in
-        let ws = now (table .entry) in
-        let hs = now (handles .entry) in
-        let e = now (ends .entry) in
-        let b = now (out .entry) in
-        let answer = unless (ltb (length b) (length (textsFound p ws hs))) (length hs) in
-        FilledBoth answer (filledBy e (endsFound p ws hs) r) (filledBy b (textsFound p ws hs) r) r (now (ends .exit)) (now (out .exit)))
+        TextsLeft (now (page .entry)) (now (table .entry)) (now (handles .entry)) (now (ends .entry)) (now (out .entry))
+        false r (now (ends .exit)) (now (out .exit))
         ⌝ }
 {
-    let mut at = 0;
-    let mut i = 0;
-    while i < handles.len() {
-        let h = handles[i] as usize;
-        let Put::Until(end) = put_text(page, table, h, out, at) else {
-            return refuse_texts(ends, out, Refusal::BufferTooShort);
-        };
-        ends[i] = end;
-        at = end;
-        i += 1;
+    let count = table[0] as usize;
+    if count <= FEW {
+        let mut skip = [0u32; FEW];
+        return skip_texts(page, table, &mut skip[0..count], handles, ends, out);
     }
-    Counted::Count(i)
+    let mut skip = [0u32; ROWS];
+    let rows = lower(count, ROWS);
+    skip_texts(page, table, &mut skip[0..rows], handles, ends, out)
 }
 
 // The inner texts of tags, or refusal 7.
@@ -222,19 +318,14 @@ fn list_texts(
 ) -> Counted
     requires { ⌜ Tags (now page) (now table) (now handles) ⌝ }
     ensures { λ r. ⌜
-        (let p = now (page .entry) in
-        let ws = now (table .entry) in
-        let hs = now (handles .entry) in
-        let e = now (ends .entry) in
-        let b = now (out .entry) in
-        let answer = unless (ltb (length e) (length hs) || ltb (length b) (length (textsFound p ws hs))) (length hs) in
-        FilledBoth answer (filledBy e (endsFound p ws hs) r) (filledBy b (textsFound p ws hs) r) r (now (ends .exit)) (now (out .exit)))
+        TextsLeft (now (page .entry)) (now (table .entry)) (now (handles .entry)) (now (ends .entry)) (now (out .entry))
+        (ltb (length (now (ends .entry))) (length (now (handles .entry)))) r (now (ends .exit)) (now (out .exit))
         ⌝ }
 {
     if ends.len() < handles.len() {
         return refuse_texts(ends, out, Refusal::BufferTooShort);
     }
-    put_texts(page, table, handles, ends, out)
+    walk_texts(page, table, handles, ends, out)
 }
 
 // The inner texts of a list of tags, one after the other, and where each ends.

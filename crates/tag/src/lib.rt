@@ -149,7 +149,7 @@ pub fn range(h: usize, last: usize) -> Ranged
 // ---- inner text: `table` is sound for `page`, and h is one of its handles
 
 // How many bytes of text a node has: as many as its places are apart.
-fn text_size(page: &[u8], n: Node) -> usize
+pub fn text_size(page: &[u8], n: Node) -> usize
     requires { ⌜ (n .start ≤ n .end) × (n .end ≤ length (now page)) ⌝ }
     ensures { λ r. ⌜ Sized (now (page .entry)) n r ⌝ }
 {
@@ -192,7 +192,7 @@ fn copy(bytes: &[u8], out: &mut [u8], at: usize) -> usize
 }
 
 // Writes a text node's bytes; another node has none.
-fn put_text(page: &[u8], n: Node, out: &mut [u8], at: usize) -> usize
+pub fn put_text(page: &[u8], n: Node, out: &mut [u8], at: usize) -> usize
     requires { ⌜ (n .start ≤ n .end) × (n .end ≤ length (now page)) ⌝ }
     requires { ⌜ at + length (textOf (now page) n) ≤ length (now out) ⌝ }
     ensures { λ r. ⌜ Wrote (now (out .entry)) at (textOf (now (page .entry)) n) (now (out .exit)) r ⌝ }
@@ -206,7 +206,7 @@ fn put_text(page: &[u8], n: Node, out: &mut [u8], at: usize) -> usize
 }
 
 // The inner text by a flat walk over the range.
-pub fn flat_text(page: &[u8], table: &[u32], h: usize, out: &mut [u8], at: usize) -> usize
+fn flat_text(page: &[u8], table: &[u32], h: usize, out: &mut [u8], at: usize) -> usize
     requires { ⌜ (sound (length (now page)) (now table) ≡ true) × (h < countOf (now table)) ⌝ }
     requires { ⌜ at + length (innerText (now page) (now table) h) ≤ length (now out) ⌝ }
     ensures { λ r. ⌜ Wrote (now (out .entry)) at (innerText (now (page .entry)) (now (table .entry)) h) (now (out .exit)) r ⌝ }
