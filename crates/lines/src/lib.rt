@@ -18,7 +18,7 @@ ghost use Rattle.lines.specs.Writes.{Writes, Ends, Prints};
 // ---- one text at a place of the buffer; each function answers the place after it
 
 // A byte that finds no room is not written, and the place then stays one past the end.
-fn put_byte(out: &mut [u8], at: usize, b: u8) -> usize
+pub fn put_byte(out: &mut [u8], at: usize, b: u8) -> usize
     ensures { λ r. ⌜ Writes (now (out .entry)) at (b ∷ []) (now (out .exit)) r ⌝ }
 {
     if at < out.len() {
@@ -28,7 +28,7 @@ fn put_byte(out: &mut [u8], at: usize, b: u8) -> usize
     if at == out.len() { at + 1 } else { at }
 }
 
-fn put(out: &mut [u8], at: usize, text: &[u8]) -> usize
+pub fn put(out: &mut [u8], at: usize, text: &[u8]) -> usize
     ensures { λ r. ⌜ Writes (now (out .entry)) at (now (text .entry)) (now (out .exit)) r ⌝ }
 {
     let mut place = at;
@@ -41,7 +41,7 @@ fn put(out: &mut [u8], at: usize, text: &[u8]) -> usize
 }
 
 // The digits before the last one come first.
-fn put_decimal(out: &mut [u8], at: usize, n: u32) -> usize
+fn put_decimal(out: &mut [u8], at: usize, n: usize) -> usize
     ensures { λ r. ⌜ Writes (now (out .entry)) at (decimal n) (now (out .exit)) r ⌝ }
 {
     if n < 10 {
@@ -52,11 +52,17 @@ fn put_decimal(out: &mut [u8], at: usize, n: u32) -> usize
 }
 
 // A space and a number.
-fn put_number(out: &mut [u8], at: usize, n: u32) -> usize
+pub fn put_size(out: &mut [u8], at: usize, n: usize) -> usize
     ensures { λ r. ⌜ Writes (now (out .entry)) at (field (decimal n)) (now (out .exit)) r ⌝ }
 {
     let next = put_byte(out, at, b' ');
     put_decimal(out, next, n)
+}
+
+fn put_number(out: &mut [u8], at: usize, n: u32) -> usize
+    ensures { λ r. ⌜ Writes (now (out .entry)) at (field (decimal n)) (now (out .exit)) r ⌝ }
+{
+    put_size(out, at, n as usize)
 }
 
 fn put_kind(out: &mut [u8], at: usize, kind: u32) -> usize
@@ -111,7 +117,7 @@ fn put_line(out: &mut [u8], at: usize, page: &[u8], h: u32, n: Node) -> usize
     requires { ⌜ NameWithin (now page) n ⌝ }
     ensures { λ r. ⌜ Writes (now (out .entry)) at (nodeLine (now (page .entry)) h n) (now (out .exit)) r ⌝ }
 {
-    let own = put_decimal(out, at, h);
+    let own = put_decimal(out, at, h as usize);
     let kind = put_kind(out, own, n.kind);
     let parent = put_parent(out, kind, n.parent);
     let start = put_number(out, parent, n.start);

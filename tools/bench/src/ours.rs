@@ -1,0 +1,203 @@
+//! Our calls, with buffers that are made once and lent to every call.
+use std::hint::black_box;
+use tl_rattle::sys;
+
+pub const SCAN: u32 = 0;
+pub const CLOSED: u32 = 1;
+
+/// Rows enough for any page of 65,536 bytes, words for as many finds, and bytes for the texts of all rows.
+const NODES: usize = 43_691;
+const TEXTS: usize = 256 << 20;
+
+/// A page, its table, and the buffers.
+pub struct Reader<'a> {
+    page: &'a [u8],
+    table: Vec<u32>,
+    finds: Vec<u32>,
+    found: usize,
+    answers: Vec<u32>,
+    ends: Vec<usize>,
+    text: Vec<u8>,
+}
+
+impl<'a> Reader<'a> {
+    pub fn new(page: &'a [u8]) -> Self {
+        Reader {
+            page,
+            table: vec![0; 8 + 8 * NODES],
+            finds: vec![0; NODES],
+            found: 0,
+            answers: vec![0; 3 * NODES],
+            ends: vec![0; NODES],
+            text: vec![0; TEXTS],
+        }
+    }
+
+    pub fn nodes(&self) -> usize {
+        self.table[0] as usize
+    }
+
+    pub fn found(&self) -> usize {
+        self.found
+    }
+
+    pub fn read(&mut self) {
+        let mut count = 0;
+        // SAFETY: the slices are whole, and none overlaps another.
+        let refused = unsafe {
+            sys::tl_parse(
+                self.page.as_ptr(),
+                self.page.len(),
+                self.table.as_mut_ptr(),
+                self.table.len(),
+                &mut count,
+            )
+        };
+        assert_eq!(refused, 0);
+        black_box(count);
+    }
+
+    pub fn class(&mut self, manner: u32, name: &str) {
+        let mut count = 0;
+        // SAFETY: as in `read`.
+        let refused = unsafe {
+            sys::tl_get_elements_by_class_name(
+                self.page.as_ptr(),
+                self.page.len(),
+                self.table.as_ptr(),
+                self.table.len(),
+                manner,
+                name.as_ptr(),
+                name.len(),
+                self.finds.as_mut_ptr(),
+                self.finds.len(),
+                &mut count,
+            )
+        };
+        assert_eq!(refused, 0);
+        black_box(count);
+    }
+
+    pub fn id(&mut self, manner: u32, name: &str) {
+        let mut answer = [0; 2];
+        // SAFETY: as in `read`.
+        let refused = unsafe {
+            sys::tl_get_element_by_id(
+                self.page.as_ptr(),
+                self.page.len(),
+                self.table.as_ptr(),
+                self.table.len(),
+                manner,
+                name.as_ptr(),
+                name.len(),
+                &mut answer,
+            )
+        };
+        assert_eq!(refused, 0);
+        black_box(answer);
+    }
+
+    pub fn query(&mut self, selector: &str) {
+        // SAFETY: as in `read`.
+        let refused = unsafe {
+            sys::tl_query_selector(
+                self.page.as_ptr(),
+                self.page.len(),
+                self.table.as_ptr(),
+                self.table.len(),
+                selector.as_ptr(),
+                selector.len(),
+                self.finds.as_mut_ptr(),
+                self.finds.len(),
+                &mut self.found,
+            )
+        };
+        assert_eq!(refused, 0);
+    }
+
+    /// The texts of all the rows that the last query found, in one call.
+    pub fn texts(&mut self) {
+        let mut count = 0;
+        // SAFETY: as in `read`.
+        let refused = unsafe {
+            sys::tl_inner_texts(
+                self.page.as_ptr(),
+                self.page.len(),
+                self.table.as_ptr(),
+                self.table.len(),
+                self.finds.as_ptr(),
+                self.found,
+                self.ends.as_mut_ptr(),
+                self.ends.len(),
+                self.text.as_mut_ptr(),
+                self.text.len(),
+                &mut count,
+            )
+        };
+        assert_eq!(refused, 0);
+        black_box(count);
+    }
+
+    /// What all these rows hold for a name, in one call.
+    pub fn attributes(&mut self, name: &str) {
+        let mut count = 0;
+        // SAFETY: as in `read`.
+        let refused = unsafe {
+            sys::tl_attributes(
+                self.page.as_ptr(),
+                self.page.len(),
+                self.table.as_ptr(),
+                self.table.len(),
+                self.finds.as_ptr(),
+                self.found,
+                name.as_ptr(),
+                name.len(),
+                self.answers.as_mut_ptr(),
+                self.answers.len(),
+                &mut count,
+            )
+        };
+        assert_eq!(refused, 0);
+        black_box(count);
+    }
+
+    /// The text of the first of them.
+    pub fn text(&mut self) {
+        let mut count = 0;
+        // SAFETY: as in `read`.
+        let refused = unsafe {
+            sys::tl_inner_text(
+                self.page.as_ptr(),
+                self.page.len(),
+                self.table.as_ptr(),
+                self.table.len(),
+                self.finds[0] as usize,
+                self.text.as_mut_ptr(),
+                self.text.len(),
+                &mut count,
+            )
+        };
+        assert_eq!(refused, 0);
+        black_box(count);
+    }
+
+    /// What the first of them holds for a name.
+    pub fn attribute(&mut self, name: &str) {
+        let mut answer = [0; 3];
+        // SAFETY: as in `read`.
+        let refused = unsafe {
+            sys::tl_attribute(
+                self.page.as_ptr(),
+                self.page.len(),
+                self.table.as_ptr(),
+                self.table.len(),
+                self.finds[0] as usize,
+                name.as_ptr(),
+                name.len(),
+                &mut answer,
+            )
+        };
+        assert_eq!(refused, 0);
+        black_box(answer);
+    }
+}
