@@ -1,6 +1,13 @@
 // Asks the library's calls a list of recorded questions: reads them on standard input, and writes a line for each answer.
 // A record is a line of five numbers, of which the first says what is asked and the last how many bytes follow; then these
-// bytes, and a line feed.
+// bytes, and a line feed. W and B are how many entries are lent, each set to 9 before.
+//   1 W T 0   a page, the bytes T times over, read into W words          2 h 0 0   the range of h
+//   3 h 0 0   an attribute of h, the bytes its name                      4 h B 0   the inner text of h
+//   5 m 0 0   the tag with an id, in the manner m                        6 m B 0   the tags with a class
+//   7 B 0 0   the bytes as a selector                                    8 B 0 0   a query over the page
+//   9 h B 0   a query below h                                            12 i v 0  word i of the table becomes v
+// The list in the file stdin beside src/, and in stdout what is to be printed for it, were recorded from tl 0.7.8 by
+// tools/compare/run --record.
 use rules::Expected;
 ghost use mathlib.Core.Path.{_≡_};
 ghost use mathlib.Core.List.{[], _∷_, _++_};

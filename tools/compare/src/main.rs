@@ -14,6 +14,7 @@ mod pages;
 mod plan;
 mod question;
 mod random;
+mod record;
 mod report;
 mod selectors;
 mod shrink;
@@ -22,16 +23,18 @@ mod tl_side;
 use plan::Batch;
 use report::Report;
 use std::collections::BTreeMap;
+use std::path::{Path, PathBuf};
 use std::process::ExitCode;
 use std::sync::atomic::{AtomicUsize, Ordering};
 use std::sync::Mutex;
 use std::thread;
 use std::time::Instant;
 
-const USAGE: &str = "usage: compare [--pages N] [--seed S] [--jobs J]
+const USAGE: &str = "usage: compare [--pages N] [--seed S] [--jobs J] [--record FOLDER]
   --pages N   about how many pages to compare (2000000)
   --seed S    another seed gives other random inputs (1)
-  --jobs J    threads (1); the inputs do not depend on it";
+  --jobs J    threads (1); the inputs do not depend on it
+  --record F  compare nothing; write tl's answers to some pages into the folder F, for the program replay";
 
 /// tl descends into nested tags by recursion; the deepest page within the limit needs some megabytes.
 const STACK: usize = 1 << 29;
@@ -40,6 +43,7 @@ struct Options {
     pages: u64,
     seed: u64,
     jobs: usize,
+    record: Option<PathBuf>,
 }
 
 fn options() -> Option<Options> {
@@ -47,10 +51,16 @@ fn options() -> Option<Options> {
         pages: 2_000_000,
         seed: 1,
         jobs: 1,
+        record: None,
     };
     let mut words = std::env::args().skip(1);
     while let Some(word) = words.next() {
-        let number: u64 = words.next()?.parse().ok()?;
+        let value = words.next()?;
+        if word == "--record" {
+            options.record = Some(PathBuf::from(value));
+            continue;
+        }
+        let number: u64 = value.parse().ok()?;
         match word.as_str() {
             "--pages" => options.pages = number,
             "--seed" => options.seed = number,
@@ -66,6 +76,9 @@ fn main() -> ExitCode {
         eprintln!("{USAGE}");
         return ExitCode::from(2);
     };
+    if let Some(folder) = &options.record {
+        return recorded(folder, options.seed);
+    }
     // A panic is reported with the input that led to it, not where it happens.
     std::panic::set_hook(Box::new(|_| {}));
     let start = Instant::now();
@@ -77,6 +90,19 @@ fn main() -> ExitCode {
         options.seed
     );
     ExitCode::from(report.has_differences() as u8)
+}
+
+/// Records tl's answers; a page on which tl and the model differ would stop it.
+fn recorded(folder: &Path, seed: u64) -> ExitCode {
+    let written = thread::scope(|scope| start(scope, || record::record(folder, seed)).join());
+    match written {
+        Ok(Ok(())) => ExitCode::SUCCESS,
+        Ok(Err(why)) => {
+            eprintln!("{}: {why}", folder.display());
+            ExitCode::FAILURE
+        }
+        Err(_) => ExitCode::FAILURE,
+    }
 }
 
 /// Goes through all batches, as many at a time as there are threads.

@@ -1,0 +1,339 @@
+//! Records questions with tl's answers for the program `replay`: what it is asked (`stdin`) and what it must print (`stdout`).
+//! crates/replay/src/main.rt has the form of both.
+//!
+//! Each answer to an accepted question about a page is tl's. tl keeps no table, so the words of one are the model's, once tl's
+//! nodes and the model's are the same. Refusals, and what a buffer holds after a call, follow the paper.
+use crate::asks::Asks;
+use crate::execution;
+use crate::model::{self, Asked, Held, Kind, Manner, Piece, PAGE_LIMIT, SELECTOR_LIMIT};
+use crate::pages;
+use crate::random::Random;
+use crate::selectors;
+use crate::tl_side::{self, TlPage};
+use std::fmt::Write as _;
+use std::fs;
+use std::io;
+use std::path::Path;
+
+/// What `replay` sets every entry of a buffer to before a call.
+const MARK: usize = 9;
+/// The most rows that its table has room for.
+const ROWS: usize = 2_047;
+/// The most questions of one kind that are recorded of a random page.
+const FEW: usize = 5;
+
+#[derive(Default)]
+struct Recording {
+    asked: Vec<u8>,
+    printed: String,
+    records: usize,
+}
+
+type Answer = Result<Vec<usize>, usize>;
+
+impl Recording {
+    /// One question: its numbers and bytes, and the line that answers it.
+    fn record(&mut self, numbers: [usize; 4], bytes: &[u8], word: &str, answer: &[usize]) {
+        let [operation, x, y, z] = numbers;
+        let head = format!("{operation} {x} {y} {z} {}\n", bytes.len());
+        self.asked.extend(head.as_bytes());
+        self.asked.extend(bytes);
+        self.asked.push(b'\n');
+        self.printed.push_str(word);
+        for number in answer {
+            write!(self.printed, " {number}").expect("a string takes it");
+        }
+        self.printed.push('\n');
+        self.records += 1;
+    }
+
+    /// A question that fills a buffer of `room` entries, `each` for one of what is counted.
+    fn list(&mut self, ask: ([usize; 4], &[u8], &str), room: usize, each: usize, answer: &Answer) {
+        let said = match answer {
+            Ok(found) if found.len() <= room => {
+                let mut said = vec![0, found.len() / each];
+                said.extend(found);
+                said.resize(2 + room, MARK);
+                said
+            }
+            Ok(_) => refused(7, room),
+            Err(number) => refused(*number, room),
+        };
+        self.record(ask.0, ask.1, ask.2, &said);
+    }
+
+    /// The same with a buffer that is exactly full, with one that is one short, and with one to spare.
+    fn rooms(
+        &mut self,
+        ask: impl Fn(usize) -> [usize; 4],
+        bytes: &[u8],
+        word: &str,
+        each: usize,
+        answer: &Answer,
+    ) {
+        let size = answer.as_ref().map_or(0, Vec::len);
+        let rooms = [size, size + 1, size.saturating_sub(1)];
+        let some = if size == 0 { 2 } else { 3 };
+        for &room in &rooms[..some] {
+            self.list((ask(room), bytes, word), room, each, answer);
+        }
+    }
+
+    /// A page, `text` so many times over, read into a table of so many words. Answers the words.
+    fn page(&mut self, text: &[u8], times: usize, words: usize) -> Vec<u32> {
+        let page = text.repeat(times);
+        let answer = match page.len() > PAGE_LIMIT {
+            true => refused(1, words),
+            false => read(&page, words),
+        };
+        self.record([1, words, times, 0], text, "parse", &answer);
+        answer[2..].iter().map(|&word| word as u32).collect()
+    }
+
+    /// Word `i` of the table becomes `value`.
+    fn word(&mut self, i: usize, value: usize) {
+        self.record([12, i, value, 0], b"", "word", &[i, value]);
+    }
+
+    fn selector(&mut self, selector: &[u8]) {
+        let answer = match tl_side::read_selector(selector) {
+            _ if selector.len() > SELECTOR_LIMIT => Err(5),
+            None => Err(6),
+            Some(chain) => Ok(chain.iter().flat_map(words_of).collect()),
+        };
+        self.rooms(|room| [7, room, 0, 0], selector, "selector", 6, &answer);
+    }
+}
+
+fn refused(number: usize, room: usize) -> Vec<usize> {
+    let mut said = vec![number, 0];
+    said.resize(2 + room, 0);
+    said
+}
+
+fn words_of(piece: &Piece) -> [usize; 6] {
+    let (first, second) = (piece.first, piece.second);
+    [
+        piece.kind as usize,
+        first.0,
+        first.1,
+        second.0,
+        second.1,
+        piece.joiner as usize,
+    ]
+}
+
+/// What reading a page into so many words answers, and the words.
+fn read(page: &[u8], words: usize) -> Vec<usize> {
+    let reading = model::read(page);
+    let rows = TlPage::read(tl_side::as_str(page)).rows();
+    assert_eq!(rows.len(), reading.rows.len());
+    for (tl, row) in rows.iter().zip(&reading.rows) {
+        assert_eq!((tl.kind, tl.parent), (row.kind, row.parent));
+        assert!(tl.place.is_none_or(|place| place == (row.start, row.end)));
+        assert!(row.kind != Kind::Tag || tl.name == row.name);
+    }
+    let table = model::words_of(page.len(), &reading);
+    if words < table.len() {
+        return refused(2, words);
+    }
+    let mut said = vec![0, reading.rows.len()];
+    said.extend(table.iter().map(|&word| word as usize));
+    said.resize(2 + words, MARK);
+    said
+}
+
+fn manners() -> [(usize, Manner); 2] {
+    [(0, Manner::Scan), (1, Manner::Closed)]
+}
+
+/// Whether tl's answers on this page are the paper's, and `replay` has room for it.
+fn is_plain(page: &[u8]) -> bool {
+    let reading = model::read(page);
+    let asked = Asked::new(page, &reading.rows);
+    let mut tags = (0..reading.rows.len()).filter(|&handle| reading.rows[handle].is_tag());
+    std::str::from_utf8(page).is_ok()
+        && reading.rows.len() <= ROWS
+        && !tags.any(|tag| asked.repeats(tag) || asked.has_bad_class(tag))
+}
+
+/// Reads a page and asks tl what `asks` names.
+fn questions(to: &mut Recording, page: &[u8], random: &mut Random) {
+    let reading = model::read(page);
+    let asks = Asks::of_page(&Asked::new(page, &reading.rows), random);
+    let tl = TlPage::read(tl_side::as_str(page));
+    to.page(page, 1, 8 + 8 * reading.rows.len() + random.below(3));
+    let beyond = reading.rows.len() + random.below(3);
+    to.record([2, beyond, 0, 0], b"", "range", &[4, 0, 0, 0]);
+    for &tag in asks.tags.iter().take(FEW) {
+        let range = tl
+            .range(tag)
+            .map_or([0; 3], |(first, last)| [last + 1 - first, first, last]);
+        to.record([2, tag, 0, 0], b"", "range", &[&[0], &range[..]].concat());
+        let text = tl
+            .text_parts(tag)
+            .concat()
+            .iter()
+            .map(|&byte| byte as usize)
+            .collect();
+        to.rooms(|room| [4, tag, room, 0], b"", "text", 1, &Ok(text));
+    }
+    for (tag, name) in asks.attributes.iter().take(3 * FEW) {
+        let held = match tl.attribute(*tag, name) {
+            Held::Absent => [0, 0, 0, 0],
+            Held::Bare => [0, 1, 0, 0],
+            Held::Value((start, end)) => [0, 2, start, end],
+        };
+        to.record([3, *tag, 0, 0], name, "attribute", &held);
+    }
+    lookups(to, &tl, &asks);
+}
+
+fn lookups(to: &mut Recording, tl: &TlPage, asks: &Asks) {
+    for (number, manner) in manners() {
+        for id in asks.ids.iter().take(FEW) {
+            let found = tl.by_id(manner, id).map_or([0; 3], |handle| [0, 1, handle]);
+            to.record([5, number, 0, 0], id, "id", &found);
+        }
+        for class in asks.classes.iter().take(FEW) {
+            let found = Ok(tl.by_class(manner, class));
+            to.rooms(|room| [6, number, room, 0], class, "class", 1, &found);
+        }
+    }
+    for selector in &asks.selectors {
+        let found = found(selector, || tl.query(selector));
+        to.rooms(|room| [8, room, 0, 0], selector, "query", 1, &found);
+        to.selector(selector);
+    }
+    for (tag, selector) in asks.below.iter().take(FEW) {
+        let found = found(selector, || tl.query_below(*tag, selector));
+        to.rooms(|room| [9, *tag, room, 0], selector, "below", 1, &found);
+    }
+}
+
+/// What a query finds, or refusal 5 or 6.
+fn found(selector: &[u8], query: impl FnOnce() -> Option<Vec<usize>>) -> Answer {
+    if selector.len() > SELECTOR_LIMIT {
+        return Err(5);
+    }
+    query().ok_or(6)
+}
+
+/// Every question to a page and table that are refused with this number.
+fn all_refused(to: &mut Recording, number: usize) {
+    to.record([2, 0, 0, 0], b"", "range", &[number, 0, 0, 0]);
+    to.record([3, 0, 0, 0], b"k", "attribute", &[number, 0, 0, 0]);
+    to.list(([4, 0, 3, 0], b"", "text"), 3, 1, &Err(number));
+    to.record([5, 0, 0, 0], b"k", "id", &[number, 0, 0]);
+    to.list(([6, 1, 2, 0], b"k", "class"), 2, 1, &Err(number));
+    to.list(([8, 2, 0, 0], b"a,", "query"), 2, 1, &Err(number));
+    to.list(([9, 0, 2, 0], b"a,", "below"), 2, 1, &Err(number));
+}
+
+/// Zero length, the longest page and selector and one byte more, tables of few words.
+fn limits(to: &mut Recording) {
+    for words in [0, 7, 8, 15, 16] {
+        to.page(b"", 1, words);
+        if words < 8 {
+            all_refused(to, 3);
+        }
+        to.page(b"a", 1, words);
+    }
+    for (length, refused) in [(PAGE_LIMIT, false), (PAGE_LIMIT + 1, true)] {
+        to.page(b"a", length, 16);
+        to.list(
+            ([8, 1, 0, 0], b"*", "query"),
+            1,
+            1,
+            &if refused { Err(1) } else { Ok(vec![0]) },
+        );
+        if refused {
+            all_refused(to, 1);
+        }
+    }
+    to.page(b"<p>", 1, 16);
+    for length in [SELECTOR_LIMIT, SELECTOR_LIMIT + 1] {
+        let selector = b"a".repeat(length);
+        to.selector(&selector);
+        let none = if length > SELECTOR_LIMIT {
+            Err(5)
+        } else {
+            Ok(vec![])
+        };
+        to.rooms(|room| [8, room, 0, 0], &selector, "query", 1, &none);
+    }
+}
+
+/// A sound table with one word changed at a time, to what makes it unsound, and changed back.
+fn damaged_tables(to: &mut Recording) {
+    let page = b"<table id=a><tr class=b><td>x</td><br></tr><!--c--></table>y";
+    let rows = model::read(page).rows.len();
+    let table = to.page(page, 1, 8 + 8 * rows);
+    for i in 0..table.len() {
+        for value in [0, table[i].wrapping_add(1), u32::MAX] {
+            let mut damaged = table.clone();
+            damaged[i] = value;
+            if model::reading_of(page.len(), &damaged).is_none() {
+                to.word(i, value as usize);
+                to.record([2, 0, 0, 0], b"", "range", &[3, 0, 0, 0]);
+            }
+        }
+        to.word(i, table[i] as usize);
+    }
+    all_still_asked(to, rows);
+    to.word(0, 0x7fff_ffff);
+    all_refused(to, 3);
+}
+
+/// The table as it was is sound again.
+fn all_still_asked(to: &mut Recording, rows: usize) {
+    let all = Ok((0..rows).collect());
+    to.rooms(|room| [8, room, 0, 0], b"*", "query", 1, &all);
+}
+
+fn random_pages(to: &mut Recording, seed: u64) {
+    let mut kept = 0;
+    for index in 0.. {
+        let mut random = Random::of(seed, 99, index);
+        let page = match index % 5 {
+            0 => execution::page(&mut random),
+            1 => {
+                let mut page = execution::page(&mut random);
+                page.truncate(random.below(page.len() + 1));
+                page
+            }
+            2 => pages::of_bytes(&mut random),
+            _ => pages::of_markup(&mut random),
+        };
+        if page.len() <= 600 && is_plain(&page) {
+            questions(to, &page, &mut random);
+            kept += 1;
+        }
+        if kept == 300 {
+            return;
+        }
+    }
+}
+
+/// Writes the two files into a folder.
+pub fn record(folder: &Path, seed: u64) -> io::Result<()> {
+    let mut to = Recording::default();
+    for page in pages::CHECKED {
+        if is_plain(page.as_bytes()) {
+            questions(
+                &mut to,
+                page.as_bytes(),
+                &mut Random::of(seed, 98, page.len() as u64),
+            );
+        }
+    }
+    selectors::CHECKED
+        .iter()
+        .for_each(|selector| to.selector(selector.as_bytes()));
+    limits(&mut to);
+    damaged_tables(&mut to);
+    random_pages(&mut to, seed);
+    writeln!(to.printed, "records {}", to.records).expect("a string takes it");
+    fs::write(folder.join("stdin"), &to.asked)?;
+    fs::write(folder.join("stdout"), &to.printed)
+}
