@@ -78,6 +78,13 @@ uint32_t tl_attributes(const uint8_t *page, size_t page_len, const uint32_t *tab
                        const uint32_t *handles, size_t handles_len, const uint8_t *name, size_t name_len, uint32_t *out,
                        size_t out_len, size_t *count);
 
+/* What each tag of a list of handles holds for each of several attribute names: 3 words a name, a handle's words together.
+ * names is one text: name j stands from the end of the one before (0 for the first) up to ends[j]; places past the text's end
+ * count as its end. *count: the handles. Refused as 1, 3, 4 (a handle of the list is no tag's), 7. */
+uint32_t tl_attributes_for_names(const uint8_t *page, size_t page_len, const uint32_t *table, size_t table_len,
+                                 const uint32_t *handles, size_t handles_len, const uint8_t *names, size_t names_len,
+                                 const size_t *ends, size_t ends_len, uint32_t *out, size_t out_len, size_t *count);
+
 /* The texts below each tag of a list of handles, one after the other in out, and where each ends. *count: the handles.
  * A refusal leaves both ends and out all zeros. Refused as 1, 3, 4 (a handle of the list is no tag's), 7. */
 uint32_t tl_inner_texts(const uint8_t *page, size_t page_len, const uint32_t *table, size_t table_len,

@@ -1,7 +1,11 @@
 pub mod Checks
 pub mod Handles
 pub mod Three
+pub mod Parts
+pub mod Names
+pub mod Room
 pub mod Stores
+pub mod Fills
 pub mod Puts
 pub mod Fitting
 pub mod Texts

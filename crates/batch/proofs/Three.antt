@@ -1,5 +1,5 @@
 -- The three words of a handle.
-use mathlib.Core.Path.{_≡_, refl}
+use mathlib.Core.Path.{_≡_, refl, _∙_}
 use mathlib.Core.Bool.{Bool}
 use mathlib.Core.List.{List}
 use Prim.Native.Nat.{ℕ, _≤_}
@@ -11,6 +11,7 @@ use Rattle.rules.specs.Table.{nodeAt}
 use Rattle.rules.specs.Lookup.{lookup}
 use Rattle.rules.specs.Refusals.{pageLimit, heldNumbers, askedNumbers}
 use Rattle.rules.specs.Answers.{attributeAnswer}
+use Rattle.rules.specs.Batch.{threeOf}
 use Rattle.rules.specs.declared.Node.{Node}
 use Rattle.rules.specs.declared.Held.{Held}
 use Rattle.rules.specs.declared.Held.the-variants.{Absent, Bare, Value}
@@ -19,11 +20,7 @@ use Rattle.rules.specs.declared.Asked.the-variants.{Holds, Refused}
 use Rattle.rules.proofs.Lookup.{Inside}
 use Rattle.rules.proofs.Asking.{SoundTag, answered-tag}
 use Rattle.tag.specs.Tag.{Looked}
-
-held-length : (v : Held) → length (heldNumbers v) ≡ 3
-held-length Absent = refl
-held-length Bare = refl
-held-length (Value a e) = refl
+use Rattle.attributes.proofs.Words.{held-length}
 
 asked-length : (r : Asked) → length (drop 1 (askedNumbers r)) ≡ 3
 asked-length (Holds v) = held-length v
@@ -36,16 +33,20 @@ inside n (Value a e) f = f a e refl
 
 module _ (p ws k : List ℕ) (h : ℕ) where
   abbrev pub three : List ℕ
-  three = drop 1 (askedNumbers (attributeAnswer isWhite p ws h k))
+  three = threeOf isWhite p ws h k
 
   pub three-length : length three ≡ 3
   three-length = asked-length (attributeAnswer isWhite p ws h k)
 
-  -- v was looked up at a tag
+  -- at a tag they say what it holds
+  pub three-tag : SoundTag p ws h → three ≡ heldNumbers (lookup isWhite p (nodeAt ws h) k)
+  unfolding attributeAnswer
+  three-tag s = rw (answered-tag p ws h Refused (Holds (lookup isWhite p (nodeAt ws h) k)) s)
+
+  -- v was looked up there
   module _ (s : SoundTag p ws h) {white : ℕ → Bool} (w : white ≡ isWhite) {n : Node} (q : n ≡ nodeAt ws h) {v : Held} (l : Looked white p n k v) where
     pub three-held : three ≡ heldNumbers v
-    unfolding attributeAnswer
-    three-held = rw (answered-tag p ws h Refused (Holds (lookup isWhite p (nodeAt ws h) k)) s, l .is, w, q)
+    three-held = three-tag s ∙ rw (l .is, w, q)
 
     -- its places lie in the page
     pub held-inside : Inside pageLimit v

@@ -5,7 +5,7 @@ use rules::Held;
 use rules::Refusal;
 ghost use mathlib.Core.Path.{_≡_};
 ghost use mathlib.Core.Bool.{true, false, not};
-ghost use mathlib.Core.List.{[], _∷_, _++_};
+ghost use mathlib.Core.List.{_++_};
 ghost use Prim.Native.Nat.{_+_, _*_, _≤_, _<_};
 ghost use lib.Dec.{ltb};
 ghost use lib.ListN.{length, drop, replicate};
@@ -14,7 +14,7 @@ ghost use Rattle.rules.specs.Sound.{countOf, sound};
 ghost use Rattle.rules.specs.Text.{innerText};
 ghost use Rattle.rules.specs.Refusals.{pageLimit, notATag, heldNumbers, filledBy};
 ghost use Rattle.rules.specs.Buffers.{Wrote};
-ghost use Rattle.rules.specs.Batch.{some, attributesFound, attributesAnswer, attributesBuffer, textsAnswer, textsBuffer, endsBuffer};
+ghost use Rattle.rules.specs.Batch.{some, attributesFound, attributesAnswer, attributesBuffer, namesFound, namesAnswer, namesBuffer, textsAnswer, textsBuffer, endsBuffer};
 ghost use Rattle.rules.proofs.Lookup.{Inside};
 ghost use Rattle.calls.specs.Calls.{Filled};
 ghost use Rattle.batch.specs.Batch.{tagsChecked, Tags, unless, FilledBoth, TextsLeft, Skips, nextText, Puts};
@@ -59,27 +59,14 @@ fn check_tags(page: &[u8], table: &[u32], handles: &[u32]) -> Checked
 
 // ---- attributes
 
-// Writes three words from `at` on, and answers the place after them.
-fn put_three(out: &mut [u32], at: usize, which: u32, start: u32, end: u32) -> usize
-    requires { ⌜ at + 3 ≤ length (now out) ⌝ }
-    ensures { λ r. ⌜ Wrote (now (out .entry)) at (which ∷ start ∷ end ∷ []) (now (out .exit)) r ⌝ }
-{
-    out[at] = which;
-    out[at + 1] = start;
-    out[at + 2] = end;
-    at + 3
-}
-
-// Writes which of the three held, and where a value starts and ends.
+// Writes the three words from `at` on, and answers the place after them.
 fn put_held(held: Held, out: &mut [u32], at: usize) -> usize
     requires { ⌜ Inside pageLimit held × (at + 3 ≤ length (now out)) ⌝ }
     ensures { λ r. ⌜ Wrote (now (out .entry)) at (heldNumbers held) (now (out .exit)) r ⌝ }
 {
-    match held {
-        Held::Absent => put_three(out, at, 0, 0, 0),
-        Held::Bare => put_three(out, at, 1, 0, 0),
-        Held::Value(start, end) => put_three(out, at, 2, start as u32, end as u32),
-    }
+    let end = at + 3;
+    attributes::write_held(&mut out[at..end], held);
+    end
 }
 
 // Writes what each tag holds for the name. The table of marks is made once.
@@ -148,6 +135,98 @@ pub fn attributes(
     match check_tags(page, table, handles) {
         Checked::Refused(why) => calls::refuse(out, why),
         Checked::Fine => list_attributes(page, table, handles, name, out),
+    }
+}
+
+// ---- attributes for several names
+
+// Whether three words for each name and each handle fit; a product might not be a usize.
+fn has_room(room: usize, names: usize, handles: usize) -> bool
+    ensures { λ r. ⌜ r ≡ not (ltb room (3 * (names * handles))) ⌝ }
+{
+    if names == 0 {
+        return true;
+    }
+    handles <= room / 3 / names
+}
+
+// Writes what each tag holds for each name. The table of marks is made once, and each tag's attributes are read once.
+fn put_names(
+    page: &[u8],
+    table: &[u32],
+    handles: &[u32],
+    names: &[u8],
+    ends: &[usize],
+    out: &mut [u32],
+)
+    requires { ⌜ Tags (now page) (now table) (now handles) × (3 * (length (now ends) * length (now handles)) ≤ length (now out)) ⌝ }
+    ensures { λ _. ⌜
+        (let found = namesFound isWhite (now (page .entry)) (now (table .entry)) (now (handles .entry)) (now (names .entry)) (now (ends .entry)) in
+        now (out .exit) ≡ found ++ drop (length found) (now (out .entry)))
+        ⌝ }
+{
+    let t = scan::mark_table();
+    let mut at = 0;
+    let mut i = 0;
+    while i < handles.len() {
+        let h = handles[i] as usize;
+        let n = table::row_at(table, h);
+        let end = at + 3 * ends.len();
+        attributes::attributes(&t, page, n, names, ends, &mut out[at..end]);
+        at = end;
+        i += 1;
+    }
+}
+
+// The attributes of tags for each name, or refusal 7.
+fn list_names(
+    page: &[u8],
+    table: &[u32],
+    handles: &[u32],
+    names: &[u8],
+    ends: &[usize],
+    out: &mut [u32],
+) -> Counted
+    requires { ⌜ Tags (now page) (now table) (now handles) ⌝ }
+    ensures { λ r. ⌜
+        (let hs = now (handles .entry) in
+        let es = now (ends .entry) in
+        let b = now (out .entry) in
+        let found = namesFound isWhite (now (page .entry)) (now (table .entry)) hs (now (names .entry)) es in
+        Filled (unless (ltb (length b) (3 * (length es * length hs))) (length hs)) (filledBy b found r) r (now (out .exit)))
+        ⌝ }
+{
+    let n = handles.len();
+    if !has_room(out.len(), ends.len(), n) {
+        return calls::refuse(out, Refusal::BufferTooShort);
+    }
+    put_names(page, table, handles, names, ends, out);
+    Counted::Count(n)
+}
+
+// What each tag of a list holds for each of several attribute names, three words for each name, a tag's words together. The names
+// stand in one text, each from the end of the one before up to its place in `ends`.
+pub fn attributes_for_names(
+    page: &[u8],
+    table: &[u32],
+    handles: &[u32],
+    names: &[u8],
+    ends: &[usize],
+    out: &mut [u32],
+) -> Counted
+    ensures { λ r. ⌜
+        (let p = now (page .entry) in
+        let ws = now (table .entry) in
+        let hs = now (handles .entry) in
+        let s = now (names .entry) in
+        let es = now (ends .entry) in
+        let b = now (out .entry) in
+        Filled (namesAnswer isWhite p ws hs es (length b)) (namesBuffer isWhite p ws hs s es b) r (now (out .exit)))
+        ⌝ }
+{
+    match check_tags(page, table, handles) {
+        Checked::Refused(why) => calls::refuse(out, why),
+        Checked::Fine => list_names(page, table, handles, names, ends, out),
     }
 }
 

@@ -7,9 +7,8 @@ use rules::Piece;
 use rules::Simple;
 use rules::Span;
 ghost use mathlib.Core.Path.{_≡_};
-ghost use Prim.Native.Nat.{_*_, _≤_, _<_, min};
+ghost use Prim.Native.Nat.{_*_, _≤_, _<_};
 ghost use lib.ListN.{length};
-ghost use Rattle.rules.specs.Scan.{part as partOf};
 ghost use Rattle.rules.specs.Lookup.{answer};
 ghost use Rattle.rules.specs.Finds.{valued, nodeHasId, nodeClassTimes};
 ghost use Rattle.rules.specs.Query.{nameOf, textOf, present, tagFits, otherFits, nodeFits, joined, meaning};
@@ -19,31 +18,13 @@ ghost use Rattle.matching.specs.Matching.{compared, Placed};
 
 // ---- parts of the page and of the selector
 
-// The lesser of two.
-fn least(a: usize, b: usize) -> usize
-    ensures { λ r. ⌜ r ≡ min a b ⌝ }
-{
-    if a < b { a } else { b }
-}
-
-// The bytes from a up to e. Places past the end count as the end, so that it can be asked for any places.
-pub fn part(s: &[u8], a: usize, e: usize) -> &[u8]
-    ensures { λ r. ⌜ now r ≡ partOf (now (s .entry)) a e ⌝ }
-{
-    let end = least(e, s.len());
-    if end <= a {
-        return &s[0..0];
-    }
-    &s[a..end]
-}
-
 // The bytes of a name in the selector.
 fn text(s: &[u8], a: Span) -> &[u8]
     ensures { λ r. ⌜ now r ≡ textOf (now (s .entry)) a ⌝ }
 {
     let start = a.start as usize;
     let end = a.end as usize;
-    part(s, start, end)
+    scan::part(s, start, end)
 }
 
 // A tag's name.
@@ -52,7 +33,7 @@ fn name(page: &[u8], n: Node) -> &[u8]
 {
     let start = n.name as usize;
     let end = n.stop as usize;
-    part(page, start, end)
+    scan::part(page, start, end)
 }
 
 // ---- one attribute of a tag
@@ -91,7 +72,7 @@ fn check_attribute(t: &[u8; 256], page: &[u8], n: Node, name: &[u8], k: &[u8], h
     match held {
         Held::Absent => false,
         Held::Bare => false,
-        Held::Value(a, e) => value_fits(part(page, a, e), k, how),
+        Held::Value(a, e) => value_fits(scan::part(page, a, e), k, how),
     }
 }
 
@@ -131,7 +112,7 @@ pub fn class_times(t: &[u8; 256], page: &[u8], n: Node, name: &[u8]) -> usize
     match held {
         Held::Absent => 0,
         Held::Bare => 0,
-        Held::Value(a, e) => words::times(part(page, a, e), name, false),
+        Held::Value(a, e) => words::times(scan::part(page, a, e), name, false),
     }
 }
 

@@ -27,11 +27,11 @@ inside-more m n Absent l i = tt
 inside-more m n Bare l i = tt
 inside-more m n (Value a e) l i = (i .0, omega (arith, i .1))
 
-abbrev InsideAssigned : ℕ → Assigned → Type 0
+abbrev pub InsideAssigned : ℕ → Assigned → Type 0
 InsideAssigned n Missing = Unit {0}
 InsideAssigned n (Given a e) = (a ≤ e) × (e ≤ n)
 
-held-inside : (n : ℕ) (r : Held) (v : Assigned) → Inside n r → InsideAssigned n v → Inside n (heldAs r v)
+pub held-inside : (n : ℕ) (r : Held) (v : Assigned) → Inside n r → InsideAssigned n v → Inside n (heldAs r v)
 held-inside n r Missing i j = i
 held-inside n r (Given a e) i j = j
 
@@ -53,11 +53,11 @@ module _ (white : ℕ → Bool) (p : List ℕ) where
       (λ t. given-inside (here isQuote p v) v (getD p v 0) (run white (pass p w) (omega arith) .1)) (λ t. tt)
 
   -- each attribute's value, so what any of them answers
-  abbrev AllInside : List Attribute → Type 0
+  abbrev pub AllInside : List Attribute → Type 0
   AllInside [] = Unit {0}
   AllInside (a ∷ rest) = InsideAssigned (length p) (a .value) × AllInside rest
 
-  attributes-inside : (k at : ℕ) → AllInside (attributes white p k at)
+  pub attributes-inside : (k at : ℕ) → AllInside (attributes white p k at)
   unfolding attributes attributeAt
   attributes-inside zero at = tt
   attributes-inside (suc k) at =

@@ -1,10 +1,10 @@
 -- The calls on a list of handles: one test of the table, then the single call's answer for each handle, in order.
 use Prim.Native.Nat.{ℕ, _+_, _*_}
 use mathlib.Core.Bool.{Bool, false, _||_}
-use mathlib.Core.List.{List, [], _∷_}
+use mathlib.Core.List.{List, [], _∷_, _++_}
 use lib.Dec.{ltb}
 use lib.ListN.{length, drop}
-use Rattle.rules.specs.Scan.{pick}
+use Rattle.rules.specs.Scan.{pick, part}
 use Rattle.rules.specs.Lists.{each}
 use Rattle.rules.specs.Text.{innerText}
 use Rattle.rules.specs.Refusals.{asking, notATag, filledBy, askedNumbers}
@@ -24,11 +24,21 @@ batchAnswer p ws hs short =
     asking Refused p ws
     (pick (some (notATag ws) hs) (Refused NotATag) (pick short (Refused BufferTooShort) (Count (length hs))))
 
+-- what f gives for each name of the text s, one after the other: the first starts at `at`, and they end at the places
+unfoldable pub eachName : (List ℕ → List ℕ) → List ℕ → ℕ → List ℕ → List ℕ
+eachName f s at [] = []
+eachName f s at (e ∷ es) = f (part s at e) ++ eachName f s e es
+
+module _ (white : ℕ → Bool) (p ws : List ℕ) where
+  -- the single answer for the tag h and the attribute name k in three words: its numbers after the refusal's
+  abbrev pub threeOf : ℕ → List ℕ → List ℕ
+  threeOf h k = drop 1 (askedNumbers (attributeAnswer white p ws h k))
+
 module _ (white : ℕ → Bool) (p ws hs : List ℕ) where
-  -- ---- what the tags hold for the attribute name k: the single answers' numbers after the refusal's, three words each
+  -- ---- what the tags hold for the attribute name k
 
   unfoldable pub attributesFound : List ℕ → List ℕ
-  attributesFound k = each (λ h. drop 1 (askedNumbers (attributeAnswer white p ws h k))) hs
+  attributesFound k = each (λ h. threeOf white p ws h k) hs
 
   -- into n words
   unfoldable pub attributesAnswer : ℕ → Counted
@@ -36,6 +46,18 @@ module _ (white : ℕ → Bool) (p ws hs : List ℕ) where
 
   unfoldable pub attributesBuffer : List ℕ → List ℕ → List ℕ
   attributesBuffer k out = filledBy out (attributesFound k) (attributesAnswer (length out))
+
+  -- ---- and for each name of the text s, which end at the places es; a tag's words stand together
+
+  unfoldable pub namesFound : List ℕ → List ℕ → List ℕ
+  namesFound s es = each (λ h. eachName (threeOf white p ws h) s 0 es) hs
+
+  -- into n words
+  unfoldable pub namesAnswer : List ℕ → ℕ → Counted
+  namesAnswer es n = batchAnswer p ws hs (ltb n (3 * (length es * length hs)))
+
+  unfoldable pub namesBuffer : List ℕ → List ℕ → List ℕ → List ℕ
+  namesBuffer s es out = filledBy out (namesFound s es) (namesAnswer es (length out))
 
 -- where texts end that are written one after the other from `at` on
 unfoldable pub endsFrom : ℕ → (ℕ → List ℕ) → List ℕ → List ℕ

@@ -5,10 +5,10 @@ use rules::Current;
 use rules::Expected;
 ghost use mathlib.Core.Path.{_≡_};
 ghost use mathlib.Core.Bool.{false};
-ghost use Prim.Native.Nat.{_+_, _≤_};
+ghost use Prim.Native.Nat.{_+_, _≤_, min};
 ghost use lib.ListN.{length, getD};
 ghost use Rattle.rules.specs.Bytes.{isIdent, isClosing, other, is};
-ghost use Rattle.rules.specs.Scan.{skip, here, pass};
+ghost use Rattle.rules.specs.Scan.{skip, here, pass, part as partOf};
 ghost use Rattle.rules.specs.Places.{currentAt, expectAt};
 ghost use Rattle.rules.specs.Attributes.{inValue};
 ghost use Rattle.scan.specs.Marks.{whiteIn, Marked, Base};
@@ -220,4 +220,22 @@ pub fn expect_and_skip(s: &[u8], at: usize, q: u8) -> Expected
         return Expected::Next(next);
     }
     Expected::Other
+}
+
+// The lesser of two.
+fn least(a: usize, b: usize) -> usize
+    ensures { λ r. ⌜ r ≡ min a b ⌝ }
+{
+    if a < b { a } else { b }
+}
+
+// The bytes from a up to e. Places past the end count as the end, so that it can be asked for any places.
+pub fn part(s: &[u8], a: usize, e: usize) -> &[u8]
+    ensures { λ r. ⌜ now r ≡ partOf (now (s .entry)) a e ⌝ }
+{
+    let end = least(e, s.len());
+    if end <= a {
+        return &s[0..0];
+    }
+    &s[a..end]
 }

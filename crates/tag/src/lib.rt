@@ -21,13 +21,13 @@ ghost use Rattle.tag.specs.Tag.{Looked, nextOf, textOf, Sized};
 // ---- attributes: `t` is the lent table of marks
 
 // The next of a tag's attributes, or their end.
-enum Next {
+pub enum Next {
     Found(Attribute),
     End,
 }
 
 // The attribute after the white from i on; there is none at the end, nor at a `/` or `>`.
-fn next_attribute(t: &[u8; 256], page: &[u8], i: usize) -> Next
+pub fn next_attribute(t: &[u8; 256], page: &[u8], i: usize) -> Next
     requires { ⌜ Marked (now t) ⌝ }
     ensures { λ r. ⌜ r ≡ nextOf (whiteIn (now (t .entry))) (now (page .entry)) i ⌝ }
 {
@@ -42,7 +42,7 @@ fn next_attribute(t: &[u8; 256], page: &[u8], i: usize) -> Next
 }
 
 // Whether the attribute has the name.
-fn is_named(page: &[u8], a: Attribute, name: &[u8]) -> bool
+pub fn is_named(page: &[u8], a: Attribute, name: &[u8]) -> bool
     requires { ⌜ (a .name ≤ a .stop) × (a .stop ≤ length (now page)) ⌝ }
     ensures { λ r. ⌜ r ≡ same (part (now (page .entry)) (a .name) (a .stop)) (now (name .entry)) ⌝ }
 {
@@ -52,7 +52,7 @@ fn is_named(page: &[u8], a: Attribute, name: &[u8]) -> bool
 }
 
 // What an attribute holds, if without a value it holds `bare`.
-fn held(bare: Held, value: Value) -> Held
+pub fn held(bare: Held, value: Value) -> Held
     ensures { λ r. ⌜ r ≡ heldAs bare value ⌝ }
 {
     match value {
@@ -107,7 +107,7 @@ fn last_of(t: &[u8; 256], page: &[u8], from: usize, name: &[u8]) -> Held
 }
 
 // Of `id` and `class` the last counts, of other names the first.
-fn is_last(name: &[u8]) -> bool
+pub fn is_last(name: &[u8]) -> bool
     ensures { λ r. ⌜ r ≡ isLast (now (name .entry)) ⌝ }
 {
     constants::is_same(name, b"id") | constants::is_same(name, b"class")

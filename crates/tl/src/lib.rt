@@ -14,7 +14,7 @@ ghost use Rattle.rules.specs.Bytes.{isWhite};
 ghost use Rattle.rules.specs.Names.{isVoid};
 ghost use Rattle.rules.specs.Refusals.{numberOf, countedNumbers, rangedNumbers, foundNumbers, heldNumbers, askedNumbers};
 ghost use Rattle.rules.specs.Answers.{parseAnswer, parseTable, selectorAnswer, selectorBuffer, rangeAnswer, textAnswer, textBuffer, attributeAnswer, idAnswer, classAnswer, classBuffer, queryAnswer, queryBuffer, queryBelowAnswer, queryBelowBuffer};
-ghost use Rattle.rules.specs.Batch.{attributesAnswer, attributesBuffer, textsAnswer, textsBuffer, endsBuffer};
+ghost use Rattle.rules.specs.Batch.{attributesAnswer, attributesBuffer, namesAnswer, namesBuffer, textsAnswer, textsBuffer, endsBuffer};
 ghost use Rattle.tl.specs.Exports.{mannerOf, Ascending, Exports, ExportsBoth};
 
 // ---- answers in numbers
@@ -298,6 +298,34 @@ pub extern "C" fn tl_attributes(
         ⌝ }
 {
     counted(batch::attributes(page, table, handles, name, out), count)
+}
+
+// What each tag of a list holds for each of several attribute names, three words for each name. The names stand in one text, each
+// from the end of the one before up to its place in `ends`.
+#[no_mangle]
+pub extern "C" fn tl_attributes_for_names(
+    page: &[u8],
+    table: &[u32],
+    handles: &[u32],
+    names: &[u8],
+    ends: &[usize],
+    out: &mut [u32],
+    count: &mut usize,
+) -> u32
+    ensures { λ r. ⌜
+        (let p = now (page .entry) in
+        let ws = now (table .entry) in
+        let hs = now (handles .entry) in
+        let s = now (names .entry) in
+        let es = now (ends .entry) in
+        let b = now (out .entry) in
+        Exports (namesAnswer isWhite p ws hs es (length b)) (namesBuffer isWhite p ws hs s es b) r (now (count .exit)) (now (out .exit)))
+        ⌝ }
+{
+    counted(
+        batch::attributes_for_names(page, table, handles, names, ends, out),
+        count,
+    )
 }
 
 // The inner texts of a list of tags, one after the other, and where each ends.

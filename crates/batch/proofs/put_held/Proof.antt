@@ -1,27 +1,19 @@
--- `batch::put_held` meets its contract: a value's places lie in a page, so they are words.
+-- `batch::put_held` meets its contract: the lent part has three words.
 use borrow.Author.Needs.{needs}
 use native.Mathlib.Omega.{arith}
+use Rattle.rules.specs.Refusals.{heldNumbers}
+use Rattle.attributes.proofs.Words.{held-length}
+use Rattle.batch.proofs.Parts.{wrote-part}
 use Rattle.batch.proofs.put_held.Statement.{statement}
 use Rattle.batch.proofs.put_held.Tie as tie
 
-cast-put-three : tie.Need-cast-put-three
-cast-put-three c = let i = rw (c .before .before .held .given .1) at (c .before .before .before .before .before .pre .0) in omega arith
-
-cast-put-three-2 : tie.Need-cast-put-three-2
-cast-put-three-2 c = let i = rw (c .before .before .held .given .1) at (c .before .before .before .before .before .pre .0) in omega arith
-
 returns : tie.Need-returns
-returns c = rw (c .before .before .before .before .enum-told .given .1) (c .before .before .put-three .ensures)
-
-returns-2 : tie.Need-returns-2
-returns-2 c = rw (c .before .before .before .before .enum-told2 .given .1) (c .before .before .put-three2 .ensures)
-
-returns-3 : tie.Need-returns-3
-returns-3 c = rw (c .before .before .before .before .before .held .given .1) (c .before .before .put-three3 .ensures)
+returns c =
+    let a = c .before .before .before .before .before .args in
+    wrote-part (a .out .now) (a .at) _ (heldNumbers (a .held)) _ (omega (arith, held-length (a .held))) (c .before .before .write-held .ensures)
 
 pub put-held-spec : {M : Type 1} → statement M
 put-held-spec =
     tie.close
-    (tie.spec (λ c. search needs) (λ c κs. search needs) (λ c. search needs) (λ c κs. search needs) (λ c. search needs)
-    cast-put-three cast-put-three-2 (λ c κs. search needs) (λ c. search needs) returns (λ c. search needs) returns-2
-    (λ c. search needs) returns-3)
+    (tie.spec (λ c. search needs) (λ c. search needs) (λ c. search needs) (λ c. search needs) (λ c. search needs)
+    (λ c κs. search needs) (λ c. search needs) returns)

@@ -1,8 +1,8 @@
--- `matching::part` meets its contract: the part up to `end`, where it is not empty, is the part up to e.
+-- `scan::part` meets its contract: the part up to `end`, where it is not empty, is the part up to e.
 use borrow.Author.Needs.{needs}
-use Rattle.matching.proofs.Parts.{part-clamp, part-none}
-use Rattle.matching.proofs.part.Statement.{statement}
-use Rattle.matching.proofs.part.Tie as tie
+use Rattle.scan.proofs.Parts.{part-clamp, part-none}
+use Rattle.scan.proofs.part.Statement.{statement}
+use Rattle.scan.proofs.part.Tie as tie
 
 returns : tie.Need-returns
 returns c =
