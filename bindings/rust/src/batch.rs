@@ -1,8 +1,8 @@
-//! One attribute, or the text, of many tags in one call, which looks at the table once for all of them.
+//! One attribute or several, or the text, of many tags in one call, which looks at the table once for all of them.
 
 use crate::calls::HeldAt;
 use crate::refusal::outcome;
-use crate::{sys, Dom, Handle, Held, Refusal};
+use crate::{sys, Dom, Handle, Held, Kind, Node, Refusal};
 
 /// The words of one answer of [`attributes`].
 const ANSWER: usize = 3;
@@ -32,6 +32,42 @@ pub fn attributes(
             handles.len(),
             name.as_ptr(),
             name.len(),
+            out.as_mut_ptr(),
+            out.len(),
+            &mut count,
+        )
+    };
+    outcome(number)?;
+    Ok(count)
+}
+
+/// Writes what each tag of a list holds for each of several names, 3 words a name, a tag's words together. The names stand one
+/// after the other in `names`, and end at the places `ends`. Answers how many tags there are.
+///
+/// # Errors
+/// [`Refusal::PageTooLong`], [`Refusal::TableNotSound`], [`Refusal::NotATag`], [`Refusal::BufferTooShort`].
+pub fn attributes_for_names(
+    page: &[u8],
+    table: &[u32],
+    handles: &[Handle],
+    names: &[u8],
+    ends: &[usize],
+    out: &mut [u32],
+) -> Result<usize, Refusal> {
+    let mut count = 0;
+    // SAFETY: as in `attributes`.
+    let number = unsafe {
+        sys::tl_attributes_for_names(
+            page.as_ptr(),
+            page.len(),
+            table.as_ptr(),
+            table.len(),
+            handles.as_ptr().cast::<u32>(),
+            handles.len(),
+            names.as_ptr(),
+            names.len(),
+            ends.as_ptr(),
+            ends.len(),
             out.as_mut_ptr(),
             out.len(),
             &mut count,
@@ -134,10 +170,48 @@ impl<'a> Dom<'a> {
             name.as_ref(),
             &mut words,
         )?;
+        Ok(self.all_held(&words))
+    }
+
+    /// What each tag of a list holds for each of several names: the first tag's answers in the order of the names, then
+    /// the next one's. Each tag's attributes are read once for all names.
+    ///
+    /// ```
+    /// use tl_rattle::Held;
+    /// let dom = tl_rattle::parse("<td k=1 j><td j=2>")?;
+    /// let cells = dom.query_selector("td")?;
+    /// let held = dom.attributes_for_names(&cells, &["j", "k"])?;
+    /// assert_eq!(held, [Held::Bare, Held::Value(b"1"), Held::Value(b"2"), Held::Absent]);
+    /// # Ok::<(), tl_rattle::Refusal>(())
+    /// ```
+    ///
+    /// # Errors
+    /// [`Refusal::NotATag`].
+    pub fn attributes_for_names<N>(
+        &self,
+        handles: &[Handle],
+        names: &[N],
+    ) -> Result<Vec<Held<'a>>, Refusal>
+    where
+        N: AsRef<[u8]>,
+    {
+        let mut text = Vec::new();
+        let mut ends = Vec::new();
+        for name in names {
+            text.extend(name.as_ref());
+            ends.push(text.len());
+        }
+        let mut words = vec![0; ANSWER * names.len() * handles.len()];
+        let (page, table) = (self.page(), self.table());
+        attributes_for_names(page, table, handles, &text, &ends, &mut words)?;
+        Ok(self.all_held(&words))
+    }
+
+    fn all_held(&self, words: &[u32]) -> Vec<Held<'a>> {
         let answers = words.chunks_exact(ANSWER).map(|words| {
             HeldAt::from_words([words[0] as usize, words[1] as usize, words[2] as usize])
         });
-        Ok(answers.map(|at| self.held(at)).collect())
+        answers.map(|at| self.held(at)).collect()
     }
 
     /// The text below each tag of a list.
@@ -153,11 +227,25 @@ impl<'a> Dom<'a> {
     /// # Errors
     /// [`Refusal::NotATag`].
     pub fn inner_texts(&self, handles: &[Handle]) -> Result<Texts, Refusal> {
-        let room = handles.iter().map(|handle| self.text_len(*handle)).sum();
-        let mut bytes = vec![0; room];
+        let mut bytes = vec![0; self.texts_len(handles)];
         let mut ends = vec![0; handles.len()];
         inner_texts(self.page(), self.table(), handles, &mut ends, &mut bytes)?;
         Ok(Texts { bytes, ends })
+    }
+
+    /// How many bytes the texts of a list have, by one pass over the nodes: tags may lie in each other.
+    fn texts_len(&self, handles: &[Handle]) -> usize {
+        let mut before = vec![0];
+        let mut size = 0;
+        for node in self.nodes() {
+            if node.kind() == Kind::Text {
+                size += node.raw().len();
+            }
+            before.push(size);
+        }
+        let nodes = handles.iter().filter_map(|handle| self.node(*handle));
+        let text = |node: Node| before[node.last().index() + 1] - before[node.handle().index() + 1];
+        nodes.map(text).sum()
     }
 }
 
@@ -176,10 +264,17 @@ mod tests {
         let list: Vec<Handle> = tags.iter().chain(&tags).copied().collect();
         let held = dom.attributes(&list, "k").unwrap();
         let texts = dom.inner_texts(&list).unwrap();
+        let names = ["k", "j", "k"];
+        let both = dom.attributes_for_names(&list, &names).unwrap();
+        assert_eq!(both.len(), names.len() * list.len());
         assert_eq!(held.len(), list.len());
         assert_eq!(texts.len(), list.len());
         for (index, handle) in list.iter().enumerate() {
             assert_eq!(Ok(held[index]), dom.attribute(*handle, "k"));
+            assert_eq!(
+                both[3 * index..][..3],
+                [held[index], Held::Absent, held[index]]
+            );
             let text = dom.inner_text(*handle).unwrap();
             assert_eq!(texts.get(index), Some(&text[..]));
         }

@@ -250,7 +250,7 @@ impl<'a> Dom<'a> {
     }
 
     /// The bytes of the text below a node.
-    pub(crate) fn text_len(&self, handle: Handle) -> usize {
+    fn text_len(&self, handle: Handle) -> usize {
         self.node(handle).map_or(0, |node| {
             let texts = node.descendants().filter(|node| node.kind() == Kind::Text);
             texts.map(|text| text.end() - text.start()).sum()

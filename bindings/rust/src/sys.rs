@@ -145,6 +145,26 @@ extern "C" {
         count: *mut usize,
     ) -> u32;
 
+    /// What each tag of a list of handles holds for each of several attribute names: 3 words a name, a handle's words
+    /// together. `names` is one text: name j stands from the end of the one before (0 for the first) up to `ends[j]`;
+    /// places past the text's end count as its end. `*count`: the handles. Refused as 1, 3, 4 (a handle of the list is no
+    /// tag's), 7.
+    pub fn tl_attributes_for_names(
+        page: *const u8,
+        page_len: usize,
+        table: *const u32,
+        table_len: usize,
+        handles: *const u32,
+        handles_len: usize,
+        names: *const u8,
+        names_len: usize,
+        ends: *const usize,
+        ends_len: usize,
+        out: *mut u32,
+        out_len: usize,
+        count: *mut usize,
+    ) -> u32;
+
     /// The texts below each tag of a list of handles, one after the other in `out`, and where each ends. `*count`: the
     /// handles. A refusal leaves both `ends` and `out` all zeros. Refused as 1, 3, 4 (a handle of the list is no
     /// tag's), 7.

@@ -61,7 +61,7 @@ fn the_calls() {
             *argument = in_rust(argument);
         }
     }
-    assert_eq!(header.len(), 11);
+    assert_eq!(header.len(), 12);
     assert_eq!(header, declared(SYS, "pub fn ", ") -> u32;"));
 }
 

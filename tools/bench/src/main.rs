@@ -74,6 +74,7 @@ fn rows_of(page: &Page) -> Vec<Row> {
     our.query(page.selector);
     let dom = theirs::read(text, theirs::SCAN);
     let handles = theirs::handles(&dom, page.selector);
+    let names = ours::Names::new(&page.names);
     vec![
         row(
             "texts of all rows",
@@ -81,7 +82,12 @@ fn rows_of(page: &Page) -> Vec<Row> {
             || theirs::texts(&dom, &handles),
         ),
         row(
-            "four attributes of all rows",
+            "four attributes of all rows, one call",
+            || our.attributes_for_names(&names),
+            || theirs::attributes(&dom, &handles, &page.names),
+        ),
+        row(
+            "four attributes of all rows, four calls",
             || page.names.iter().for_each(|name| our.attributes(name)),
             || theirs::attributes(&dom, &handles, &page.names),
         ),

@@ -9,6 +9,26 @@ pub const CLOSED: u32 = 1;
 const NODES: usize = 43_691;
 const TEXTS: usize = 256 << 20;
 
+/// Several names as one text, and where each ends.
+pub struct Names {
+    text: String,
+    ends: Vec<usize>,
+}
+
+impl Names {
+    pub fn new(names: &[&str]) -> Self {
+        let mut end = 0;
+        let ends = names.iter().map(|name| {
+            end += name.len();
+            end
+        });
+        Names {
+            ends: ends.collect(),
+            text: names.concat(),
+        }
+    }
+}
+
 /// A page, its table, and the buffers.
 pub struct Reader<'a> {
     page: &'a [u8],
@@ -27,7 +47,7 @@ impl<'a> Reader<'a> {
             table: vec![0; 8 + 8 * NODES],
             finds: vec![0; NODES],
             found: 0,
-            answers: vec![0; 3 * NODES],
+            answers: vec![0; 12 * NODES],
             ends: vec![0; NODES],
             text: vec![0; TEXTS],
         }
@@ -90,7 +110,7 @@ impl<'a> Reader<'a> {
                 manner,
                 name.as_ptr(),
                 name.len(),
-                &mut answer,
+                answer.as_mut_ptr(),
             )
         };
         assert_eq!(refused, 0);
@@ -161,6 +181,31 @@ impl<'a> Reader<'a> {
         black_box(count);
     }
 
+    /// What all these rows hold for each of several names, in one call.
+    pub fn attributes_for_names(&mut self, Names { text, ends }: &Names) {
+        let mut count = 0;
+        // SAFETY: as in `read`.
+        let refused = unsafe {
+            sys::tl_attributes_for_names(
+                self.page.as_ptr(),
+                self.page.len(),
+                self.table.as_ptr(),
+                self.table.len(),
+                self.finds.as_ptr(),
+                self.found,
+                text.as_ptr(),
+                text.len(),
+                ends.as_ptr(),
+                ends.len(),
+                self.answers.as_mut_ptr(),
+                self.answers.len(),
+                &mut count,
+            )
+        };
+        assert_eq!(refused, 0);
+        black_box(count);
+    }
+
     /// The text of the first of them.
     pub fn text(&mut self) {
         let mut count = 0;
@@ -194,7 +239,7 @@ impl<'a> Reader<'a> {
                 self.finds[0] as usize,
                 name.as_ptr(),
                 name.len(),
-                &mut answer,
+                answer.as_mut_ptr(),
             )
         };
         assert_eq!(refused, 0);
