@@ -5,14 +5,14 @@ use mathlib.Core.List.{List, [], _∷_}
 use Prim.Native.Nat.{ℕ, _*_, _≤_}
 use native.Mathlib.Omega.{arith}
 use lib.ListN.{length, replicate}
-use Rattle.rules.specs.Lookup.{lookupFrom}
+use Rattle.rules.specs.Lookup.{InsideAssigned, lookupFrom}
 use Rattle.rules.specs.Refusals.{pageLimit, heldNumbers}
 use Rattle.rules.specs.declared.Attribute.{Attribute}
 use Rattle.rules.specs.declared.Value.{Value as Assigned}
 use Rattle.rules.specs.declared.Value.the-variants.{Missing, Given}
 use Rattle.rules.specs.declared.Held.{Held}
 use Rattle.rules.specs.declared.Held.the-variants.{Absent}
-use Rattle.rules.proofs.Lookup.{InsideAssigned, AllInside, attributes-inside}
+use Rattle.rules.proofs.Lookup.{AllInside, attributes-inside}
 use Rattle.tag.proofs.Fuel.{from}
 use Rattle.tag.proofs.Turns.{Turn}
 use Rattle.attributes.specs.Noting.{heldWords, noted, NotesAll, Placed}

@@ -3,13 +3,12 @@ use mathlib.Core.Path.{_≡_}
 use mathlib.Core.List.{List}
 use Prim.Native.Nat.{ℕ, _≤_}
 use Rattle.rules.specs.Scan.{pick, part, same}
-use Rattle.rules.specs.Lookup.{isLast, heldAs}
+use Rattle.rules.specs.Lookup.{InsideAssigned, isLast, heldAs}
 use Rattle.rules.specs.Refusals.{pageLimit, heldNumbers}
 use Rattle.rules.specs.Batch.{eachName}
 use Rattle.rules.specs.declared.Attribute.{Attribute}
 use Rattle.rules.specs.declared.Held.{Held}
 use Rattle.rules.specs.declared.Held.the-variants.{Absent, Bare, Value}
-use Rattle.rules.proofs.Lookup.{InsideAssigned}
 
 -- the three words of each name of the text s, which end at the places; f is what is held for a name
 abbrev pub heldWords : (List ℕ → Held) → List ℕ → List ℕ → List ℕ

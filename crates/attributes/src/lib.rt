@@ -10,9 +10,8 @@ ghost use mathlib.Core.Path.{_≡_};
 ghost use mathlib.Core.List.{[], _∷_};
 ghost use Prim.Native.Nat.{_*_, _≤_, _<_};
 ghost use lib.ListN.{length};
-ghost use Rattle.rules.specs.Lookup.{lookup, lookupFrom};
+ghost use Rattle.rules.specs.Lookup.{Inside, lookup, lookupFrom};
 ghost use Rattle.rules.specs.Refusals.{pageLimit, heldNumbers};
-ghost use Rattle.rules.proofs.Lookup.{Inside};
 ghost use Rattle.scan.specs.Marks.{Marked, whiteIn};
 ghost use Rattle.attributes.specs.Noting.{Placed, heldWords, Notes, NotesAll};
 

@@ -48,6 +48,10 @@ module _ (p ws : List ℕ) where
         let z : k + (e - k) ≡ e = omega arith in
         many (e - k) k (λ j a b. n j a (omega arith)) ∙ rw z
 
+  -- nothing is filled in
+  pub skips-none : (skip : List ℕ) → length skip ≡ 0 → Skips p ws skip
+  skips-none skip e = record { later = λ k l. absurd (omega arith); none = λ k l. absurd (omega arith) }
+
   module _ {skip : List ℕ} (s : Skips p ws skip) where
     pub next-later : (k : ℕ) → k ≤ nextText skip k
     next-later k =

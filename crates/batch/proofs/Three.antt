@@ -8,7 +8,7 @@ use borrow.Author.Tests.{ltb-false}
 use lib.ListN.{length, drop}
 use Rattle.rules.specs.Bytes.{isWhite}
 use Rattle.rules.specs.Table.{nodeAt}
-use Rattle.rules.specs.Lookup.{lookup}
+use Rattle.rules.specs.Lookup.{Inside, lookup}
 use Rattle.rules.specs.Refusals.{pageLimit, heldNumbers, askedNumbers}
 use Rattle.rules.specs.Answers.{attributeAnswer}
 use Rattle.rules.specs.Batch.{threeOf}
@@ -17,7 +17,6 @@ use Rattle.rules.specs.declared.Held.{Held}
 use Rattle.rules.specs.declared.Held.the-variants.{Absent, Bare, Value}
 use Rattle.rules.specs.declared.Asked.{Asked}
 use Rattle.rules.specs.declared.Asked.the-variants.{Holds, Refused}
-use Rattle.rules.proofs.Lookup.{Inside}
 use Rattle.rules.proofs.Asking.{SoundTag, answered-tag}
 use Rattle.tag.specs.Tag.{Looked}
 use Rattle.attributes.proofs.Words.{held-length}

@@ -8,14 +8,13 @@ use lib.ListN.{length, getD}
 use Rattle.rules.specs.Scan.{pick}
 use Rattle.rules.specs.Text.{textAt}
 use Rattle.rules.specs.Buffers.{Wrote}
-use Rattle.rules.specs.Refusals.{asking, notATag, filledBy}
+use Rattle.rules.specs.Refusals.{Sound, asking, notATag, filledBy}
 use Rattle.rules.specs.Batch.{some, textsFound, endsFound}
 use Rattle.rules.specs.declared.Refusal.the-variants.{NotATag, BufferTooShort}
 use Rattle.rules.specs.declared.Checked.{Checked}
 use Rattle.rules.specs.declared.Checked.the-variants.{Fine, Refused}
 use Rattle.rules.specs.declared.Counted.{Counted}
 use Rattle.rules.specs.declared.Counted.the-variants.{Count, Refused as Uncounted}
-use Rattle.rules.proofs.Asking.{Sound}
 use Rattle.batch.specs.declared.Put.{Put}
 use Rattle.batch.specs.declared.Put.the-variants.{Until, Short}
 

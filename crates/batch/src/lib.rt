@@ -15,7 +15,7 @@ ghost use Rattle.rules.specs.Text.{innerText};
 ghost use Rattle.rules.specs.Refusals.{pageLimit, notATag, heldNumbers, filledBy};
 ghost use Rattle.rules.specs.Buffers.{Wrote};
 ghost use Rattle.rules.specs.Batch.{some, attributesFound, attributesAnswer, attributesBuffer, namesFound, namesAnswer, namesBuffer, textsAnswer, textsBuffer, endsBuffer};
-ghost use Rattle.rules.proofs.Lookup.{Inside};
+ghost use Rattle.rules.specs.Lookup.{Inside};
 ghost use Rattle.calls.specs.Calls.{Filled};
 ghost use Rattle.batch.specs.Batch.{tagsChecked, Tags, unless, FilledBoth, TextsLeft, Skips, nextText, Puts};
 
@@ -34,7 +34,7 @@ fn all_tags(table: &[u32], len: usize, handles: &[u32]) -> bool
     let mut i = 0;
     while i < handles.len() {
         let h = handles[i] as usize;
-        if !calls::is_tag(table, len, h) {
+        if !tag::is_tag(table, len, h) {
             return false;
         }
         i += 1;
@@ -363,7 +363,28 @@ fn lower(a: usize, b: usize) -> usize
     b
 }
 
-// The same, with a `skip` for all rows, or for as many as a page has.
+// Whether the rows below the handles are no more than all rows: each can then be walked through without `skip`. The answer is
+// about speed alone, so nothing is promised of it.
+fn few_below(page: &[u8], table: &[u32], handles: &[u32], count: usize) -> bool
+    requires { ⌜ Tags (now page) (now table) (now handles) ⌝ }
+{
+    let mut left = count;
+    let mut i = 0;
+    while i < handles.len() {
+        let h = handles[i] as usize;
+        let n = table::row_at(table, h);
+        let last = n.last as usize;
+        let below = last - h;
+        if left < below {
+            return false;
+        }
+        left -= below;
+        i += 1;
+    }
+    true
+}
+
+// The same, with a `skip` if it is needed, for all rows or for as many as a page has.
 fn walk_texts(
     page: &[u8],
     table: &[u32],
@@ -378,6 +399,9 @@ fn walk_texts(
         ⌝ }
 {
     let count = table[0] as usize;
+    if few_below(page, table, handles, count) {
+        return put_texts(page, table, &table[0..0], handles, ends, out);
+    }
     if count <= FEW {
         let mut skip = [0u32; FEW];
         return skip_texts(page, table, &mut skip[0..count], handles, ends, out);

@@ -6,7 +6,7 @@ use Prim.Native.Nat.{ℕ, _+_, _≤_, _<_}
 use native.Mathlib.Omega.{arith}
 use lib.ListN.{length, length-take}
 use Rattle.rules.specs.Table.{nodeAt, rowAt, rowWords}
-use Rattle.rules.specs.Lookup.{lookup, upTo}
+use Rattle.rules.specs.Lookup.{Inside, lookup, upTo}
 use Rattle.rules.specs.Refusals.{pageTooLong, tableNotSound, notATag}
 use Rattle.rules.specs.Answers.{attributeAnswer}
 use Rattle.rules.specs.declared.Node.{Node}
@@ -16,7 +16,7 @@ use Rattle.rules.specs.declared.Refusal.the-variants.{PageTooLong, TableNotSoun
 use Rattle.rules.specs.declared.Asked.{Asked}
 use Rattle.rules.specs.declared.Asked.the-variants.{Holds, Refused}
 use Rattle.rules.proofs.Pick.{cases}
-use Rattle.rules.proofs.Lookup.{Inside, inside-more, lookup-inside}
+use Rattle.rules.proofs.Lookup.{inside-more, lookup-inside}
 use Rattle.rules.proofs.Sound.{sound-fits, sound-rows}
 use Rattle.rules.proofs.Asking.{SoundTag}
 

@@ -1,13 +1,10 @@
 -- What the public calls promise of a buffer.
-use mathlib.Core.Bool.{Bool, _&&_}
 use mathlib.Core.Path.{_≡_}
 use mathlib.Core.List.{List}
 use Prim.Native.Nat.{ℕ, _<_}
-use lib.Dec.{ltb}
 use lib.ListN.{length, replicate}
 use Rattle.rules.specs.Bytes.{isWhite}
-use Rattle.rules.specs.Table.{nodeAt}
-use Rattle.rules.specs.Sound.{countOf, tagged}
+use Rattle.rules.specs.Sound.{countOf}
 use Rattle.rules.specs.Chain.{readSelector}
 use Rattle.rules.specs.Query.{overPage, belowTag}
 use Rattle.rules.specs.Refusals.{counted, filledBy}
@@ -47,7 +44,3 @@ InScope ws (Below h) = h < countOf ws
 pub record Selects (finds : List Piece → List ℕ) (s b : List ℕ) (r : Counted) (out : List ℕ) : Type 0 where
   pub is : r ≡ selected finds s (length b)
   pub left : out ≡ filledBy b (findsOf finds (readSelector s)) r
-
--- h is a tag's handle
-abbrev pub isTag : List ℕ → ℕ → Bool
-isTag ws h = ltb h (countOf ws) && tagged (nodeAt ws h)

@@ -14,12 +14,12 @@ ghost use Prim.Native.Nat.{_<_};
 ghost use lib.ListN.{length};
 ghost use Rattle.rules.specs.Bytes.{isWhite};
 ghost use Rattle.rules.specs.Refusals.{asking, askingTag, heldPart};
-ghost use Rattle.rules.proofs.Lookup.{Inside};
 ghost use Rattle.rules.specs.Sound.{countOf, sound};
 ghost use Rattle.rules.specs.Text.{innerText};
 ghost use Rattle.rules.specs.Finds.{byClass};
+ghost use Rattle.rules.specs.Lookup.{Inside};
 ghost use Rattle.rules.specs.Answers.{rangeAnswer, textAnswer, textBuffer, attributeAnswer, attributePart, idAnswer, classAnswer, classBuffer, queryAnswer, queryBuffer, queryBelowAnswer, queryBelowBuffer};
-ghost use Rattle.calls.specs.Calls.{Filled, Writes, Refuses, Selects, InScope, scoped, isTag};
+ghost use Rattle.calls.specs.Calls.{Filled, Writes, Refuses, Selects, InScope, scoped};
 
 // How deep `inner_text` descends by recursion before a flat walk goes on.
 const DEPTH: usize = 64;
@@ -40,19 +40,6 @@ pub fn check(page: &[u8], table: &[u32]) -> Checked
     Checked::Refused(Refusal::TableNotSound)
 }
 
-// Whether a handle is a tag's.
-pub fn is_tag(table: &[u32], len: usize, h: usize) -> bool
-    requires { ⌜ sound len (now table) ≡ true ⌝ }
-    ensures { λ r. ⌜ r ≡ isTag (now (table .entry)) h ⌝ }
-{
-    let count = table[0] as usize;
-    if h < count {
-        let n = table::row_at(table, h);
-        return n.kind == 1;
-    }
-    false
-}
-
 // Refusals 1, 3 and 4.
 fn check_tag(page: &[u8], table: &[u32], h: usize) -> Checked
     ensures { λ r. ⌜ r ≡ askingTag Checked.Refused (now (page .entry)) (now (table .entry)) h Checked.Fine ⌝ }
@@ -60,7 +47,7 @@ fn check_tag(page: &[u8], table: &[u32], h: usize) -> Checked
     match check(page, table) {
         Checked::Refused(why) => Checked::Refused(why),
         Checked::Fine => {
-            if is_tag(table, page.len(), h) {
+            if tag::is_tag(table, page.len(), h) {
                 return Checked::Fine;
             }
             Checked::Refused(Refusal::NotATag)

@@ -17,19 +17,19 @@ use Rattle.rules.specs.declared.Held.the-variants.{Absent, Bare, Value}
 use Rattle.rules.specs.declared.Asked.the-variants.{Holds}
 use Rattle.rules.specs.Reader.{node, read}
 use Rattle.rules.specs.Table.{nodeAt}
-use Rattle.rules.specs.Sound.{countOf, lastAt, tagged}
-use Rattle.rules.specs.Lookup.{answer, lookup}
+use Rattle.rules.specs.Sound.{countOf, lastAt, tagged, isTag}
+use Rattle.rules.specs.Lookup.{Inside, answer, lookup}
 use Rattle.rules.specs.Query.{nameOf, tagFits, nodeFits, meaning, matches, overPage, belowTag}
 use Rattle.rules.specs.Refusals.{heldPart, askedPart}
 use Rattle.rules.specs.Answers.{attributeAnswer, attributePart, queryAnswer, queryBuffer, queryBelowAnswer, queryBelowBuffer}
-use Rattle.rules.proofs.Lookup.{Inside, inside-more, lookup-inside}
+use Rattle.rules.proofs.Lookup.{inside-more, lookup-inside}
 use Rattle.laws.proofs.CutLexer.{part-cut}
 use Rattle.laws.proofs.Nodes.{kind-in}
 use Rattle.laws.proofs.Nested.{Nested, Under, child, deeper}
 use Rattle.laws.proofs.Tree.{page-nested, descendants}
 use Rattle.laws.proofs.Lockstep.{Agree, agree}
 use Rattle.laws.proofs.Tables.{Accepted, accepted}
-use Rattle.cut.specs.Cut.{isTag, IsTag, Enough, Alike, CutOff, Demand3}
+use Rattle.cut.specs.Cut.{IsTag, Enough, Alike, CutOff, Demand3}
 use Rattle.cut.proofs.Finds.{same-finds, and-parts}
 use Rattle.cut.proofs.Selected.{selected-alike}
 use Rattle.cut.proofs.Accepts.{tag-node, node-tag, attribute-is, query-is, below-is, last-is, descends}

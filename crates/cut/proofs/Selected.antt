@@ -10,6 +10,7 @@ use lib.ListN.{length, take, drop}
 use lib.Seq.{take-append-seam}
 use Rattle.rules.specs.Scan.{pick}
 use Rattle.rules.specs.Lists.{only}
+use Rattle.rules.specs.Sound.{isTag}
 use Rattle.rules.specs.Chain.{readSelector}
 use Rattle.rules.specs.Refusals.{selectorTooLong, counted, filledBy}
 use Rattle.rules.specs.Answers.{findsAnswer, findsOf, selected}
@@ -17,7 +18,7 @@ use Rattle.rules.specs.declared.Piece.{Piece}
 use Rattle.rules.specs.declared.Refusal.the-variants.{SelectorTooLong, BufferTooShort}
 use Rattle.rules.specs.declared.Counted.{Counted}
 use Rattle.rules.specs.declared.Counted.the-variants.{Count, Refused}
-use Rattle.cut.specs.Cut.{isTag, Enough, found, Alike}
+use Rattle.cut.specs.Cut.{Enough, found, Alike}
 
 -- finds with enough room: all are counted, and stand first in the words lent
 fits-found : (b : Bool) (fs : List ℕ) → Enough (pick b (Refused BufferTooShort) (Count (length fs)))

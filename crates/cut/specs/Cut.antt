@@ -1,14 +1,13 @@
 -- "A page cut off" (document 01): what the public calls answer for a page's first n bytes, and for the whole page.
 use Prim.Native.Nat.{ℕ, suc, _≤_, _<_}
-use mathlib.Core.Bool.{Bool, _&&_}
+use mathlib.Core.Bool.{Bool}
 use mathlib.Core.Logic.{_↔_}
 use mathlib.Core.Path.{_≡_}
 use mathlib.Core.List.{List, []}
-use lib.Dec.{ltb}
 use lib.ListN.{length, take}
 use Rattle.rules.specs.Lists.{only}
 use Rattle.rules.specs.Table.{nodeAt}
-use Rattle.rules.specs.Sound.{countOf, lastAt, tagged}
+use Rattle.rules.specs.Sound.{countOf, lastAt, isTag}
 use Rattle.rules.specs.Query.{nameOf}
 use Rattle.rules.specs.Answers.{parseAnswer, parseTable, attributeAnswer, attributePart, queryAnswer, queryBuffer, queryBelowAnswer, queryBelowBuffer}
 use Rattle.rules.specs.declared.Refusal.{Refusal}
@@ -19,9 +18,6 @@ use Rattle.rules.specs.declared.Counted.the-variants.{Count, Refused}
 -- ---- the words of the statement
 
 -- row h of the table is a tag
-abbrev pub isTag : List ℕ → ℕ → Bool
-isTag ws h = ltb h (countOf ws) && tagged (nodeAt ws h)
-
 abbrev pub IsTag : List ℕ → ℕ → Type 0
 IsTag ws h = (h < countOf ws) × (nodeAt ws h .kind ≡ 1)
 

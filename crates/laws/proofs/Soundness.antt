@@ -14,6 +14,7 @@ use Rattle.rules.specs.declared.Item.the-variants.{Text, Close, Comment, Doctyp
 use Rattle.rules.specs.Lexer.{next, itemAt}
 use Rattle.rules.specs.declared.Node.{Node}
 use Rattle.rules.specs.Reader.{node, Reading, noNode, leaf, tagNode, closed, closeInto, put, step, steps, begin, withLast, read}
+use Rattle.rules.specs.Facts.{SoundNode, Tags, Fine}
 use Rattle.rules.proofs.Pick.{cases}
 use Rattle.laws.proofs.CutLexer.{Formed, item-grows, item-formed}
 use Rattle.laws.proofs.Nodes.{snoc-all, set-all, Ext, ext-snoc, ext-set, kind-in}
@@ -21,25 +22,12 @@ use Rattle.laws.proofs.Nested.{Nested}
 use Rattle.laws.proofs.Tree.{parents, page-nested}
 use Rattle.laws.proofs.Lockstep.{put-at}
 
--- the node t of the handle h, read by the place `at`
-pub record SoundNode (at h : ℕ) (t : Node) : Type 0 where
-  pub some : 1 ≤ t .kind
-  pub known : t .kind ≤ 3
-  pub ordered : t .start ≤ t .end
-  pub within : t .end ≤ at
-  pub tag : t .kind ≡ 1 → (t .start < t .name) × (t .name ≤ t .stop) × (t .stop < t .opened) × (t .opened ≤ t .end)
-  pub plain : (t .kind ≡ 1 → ⊥) → (t .name ≡ 0) × (t .stop ≡ 0) × (t .opened ≡ 0) × (t .last ≡ h)
-
 pub record Sound (size : ℕ) (ns : List Node) : Type 0 where
   pub nodes : (h : ℕ) → h < length ns → SoundNode size h (node ns h)
   pub nested : Nested (length ns) (parents ns) (λ d. node ns d .last)
 
 later : {a b h : ℕ} {t : Node} → a ≤ b → SoundNode a h t → SoundNode b h t
 later l s = record { some = s .some; known = s .known; ordered = s .ordered; within = omega arith; tag = s .tag; plain = s .plain }
-
-abbrev pub Tags : List Node → List ℕ → Type 0
-Tags ns [] = Unit {0}
-Tags ns (h ∷ hs) = (node ns h .kind ≡ 1) × Tags ns hs
 
 tags-ext : {b : ℕ} {ns ms : List Node} (hs : List ℕ) → Ext b ns ms → Tags ns hs → Tags ms hs
 tags-ext [] e t = tt
@@ -51,10 +39,6 @@ ended e l k x y s =
     record { some = s .some; known = s .known; ordered = omega (arith, s .ordered); within = y; tag = λ z. omega (arith, s .tag z); plain = λ z. absurd (z k) }
 
 module _ (white : ℕ → Bool) (void : List ℕ → Bool) (p : List ℕ) where
-  pub record Fine (r : Reading) : Type 0 where
-    pub nodes : (h : ℕ) → h < length (r .nodes) → SoundNode (r .at) h (node (r .nodes) h)
-    pub tags : Tags (r .nodes) (r .opens)
-
   add : (r : Reading) (x : Node) (n : ℕ) → Fine r → r .at ≤ n → SoundNode n (length (r .nodes)) x → (h : ℕ) → h < length (r .nodes ++ (x ∷ [])) → SoundNode n h (node (r .nodes ++ (x ∷ [])) h)
   add r x n F l s h b =
       snoc-all (λ h t. h < suc (length (r .nodes)) → SoundNode n h t) (r .nodes) x (λ h k z. later l (F .nodes h k)) (λ z. s) (λ h k z. absurd (omega arith)) h
@@ -128,7 +112,7 @@ last-sound l size (k ∷ hs) ns T S = last-sound l size hs (set ns k y) (tags-ex
 -- the nodes of a page are sound
 pub page-sound : (white : ℕ → Bool) (void : List ℕ → Bool) (p : List ℕ) → Sound (length p) (read white void p .nodes)
 page-sound white void p =
-    let f : Fine white void p (steps white void p (length p) begin) × (steps white void p (length p) begin .at ≤ length p) = steps-fine white void p (length p) begin (omega arith) (record { nodes = λ h b. absurd (omega arith); tags = tt }) in
+    let f : Fine (steps white void p (length p) begin) × (steps white void p (length p) begin .at ≤ length p) = steps-fine white void p (length p) begin (omega arith) (record { nodes = λ h b. absurd (omega arith); tags = tt }) in
     record {
       nodes = last-sound (pred (length (steps white void p (length p) begin .nodes))) (length p) (steps white void p (length p) begin .opens) (steps white void p (length p) begin .nodes) (f .0 .tags) (λ h b. later (f .1) (f .0 .nodes h b));
       nested = page-nested white void p;

@@ -5,6 +5,7 @@ use mathlib.Core.List.{List}
 use Prim.Native.Nat.{ℕ, _≤_, _<_}
 use lib.ListN.{length, replicate}
 use Rattle.rules.specs.Names.{isVoid}
+use Rattle.rules.specs.Facts.{Fine}
 use Rattle.rules.specs.Reader.{Reading, steps, finished}
 use Rattle.rules.specs.Table.{rowAt, headOf, filled}
 use Rattle.rules.specs.Refusals.{pageLimit}
@@ -14,14 +15,13 @@ use Rattle.rules.specs.declared.Progress.{Progress}
 use Rattle.rules.specs.declared.Refusal.{Refusal}
 use Rattle.rules.specs.declared.Counted.{Counted}
 use Rattle.rules.specs.declared.Counted.the-variants.{Refused}
-use Rattle.laws.proofs.Soundness.{Fine}
 use Rattle.tree.specs.Held.{Held}
 
 -- ---- the steps
 
 -- what holds of every reading of the page p: its nodes are sound, and at most as many as the bytes read
 pub record Good (white : ℕ → Bool) (p : List ℕ) (R : Reading) : Type 0 where
-  pub fine : Fine white isVoid p R
+  pub fine : Fine R
   pub few : length (R .nodes) ≤ R .at
   pub within : R .at ≤ length p
 

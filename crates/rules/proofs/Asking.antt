@@ -10,7 +10,7 @@ use lib.ListN.{length}
 use Rattle.rules.specs.Scan.{pick}
 use Rattle.rules.specs.Table.{nodeAt}
 use Rattle.rules.specs.Sound.{countOf, sound, tagged}
-use Rattle.rules.specs.Refusals.{pageTooLong, tableNotSound, notATag, asking, askingTag}
+use Rattle.rules.specs.Refusals.{Sound, pageTooLong, tableNotSound, notATag, asking, askingTag}
 use Rattle.rules.specs.declared.Refusal.{Refusal}
 use Rattle.rules.specs.declared.Refusal.the-variants.{PageTooLong, TableNotSound, NotATag}
 use Rattle.rules.specs.declared.Checked.{Checked}
@@ -31,13 +31,8 @@ never : {A : Type 0} {y : Refusal} {b c : A} → Fine ≡ Refused y → b ≡ c
 never e = let z : _≡_ {A = ℕ} 0 1 = cc in absurd (omega arith)
 
 module _ (p ws : List ℕ) where
-  -- the table is sound for a page that is not too long
-  pub record Sound : Type 0 where
-    pub short : pageTooLong p ≡ false
-    pub table : sound (length p) ws ≡ true
-
   -- c is checked after the two, and b answered after them
-  fine-then : (c : Checked) → asking Refused p ws c ≡ Fine → Sound × (c ≡ Fine)
+  fine-then : (c : Checked) → asking Refused p ws c ≡ Fine → Sound p ws × (c ≡ Fine)
   fine-then c e =
       let a = after-fine (pageTooLong p) PageTooLong (pick (tableNotSound p ws) (Refused TableNotSound) c) e in
       let b = after-fine (tableNotSound p ws) TableNotSound c (a .1) in
@@ -49,18 +44,18 @@ module _ (p ws : List ℕ) where
       after-refused R (pageTooLong p) PageTooLong y (pick (tableNotSound p ws) (Refused TableNotSound) c) (pick (tableNotSound p ws) (R TableNotSound) b) e
       (λ g. after-refused R (tableNotSound p ws) TableNotSound y c b g f)
 
-  pub was-fine : asking Refused p ws Fine ≡ Fine → Sound
+  pub was-fine : asking Refused p ws Fine ≡ Fine → Sound p ws
   was-fine e = fine-then Fine e .0
 
   pub was-refused : {A : Type 0} (R : Refusal → A) (b : A) (y : Refusal) → asking Refused p ws Fine ≡ Refused y → asking R p ws b ≡ R y
   was-refused R b y e = refused-then R Fine b y e never
 
-  pub answered : {A : Type 0} (R : Refusal → A) (b : A) → Sound → asking R p ws b ≡ b
+  pub answered : {A : Type 0} (R : Refusal → A) (b : A) → Sound p ws → asking R p ws b ≡ b
   answered R b s = rw (s .short, s .table)
 
   -- the same with a test of refusal 4
   module _ (t : Bool) where
-    pub was-fine-also : asking Refused p ws (pick t (Refused NotATag) Fine) ≡ Fine → Sound × (t ≡ false)
+    pub was-fine-also : asking Refused p ws (pick t (Refused NotATag) Fine) ≡ Fine → Sound p ws × (t ≡ false)
     was-fine-also e =
         let a = fine-then (pick t (Refused NotATag) Fine) e in (a .0, after-fine t NotATag Fine (a .1) .0)
 
@@ -70,18 +65,18 @@ module _ (p ws : List ℕ) where
         refused-then R (pick t (Refused NotATag) Fine) (pick t (R NotATag) b) y e
         (λ g. after-refused R t NotATag y Fine b g never)
 
-    pub answered-also : {A : Type 0} (R : Refusal → A) (b : A) → Sound → t ≡ false → asking R p ws (pick t (R NotATag) b) ≡ b
+    pub answered-also : {A : Type 0} (R : Refusal → A) (b : A) → Sound p ws → t ≡ false → asking R p ws (pick t (R NotATag) b) ≡ b
     answered-also R b s f = rw (s .short, s .table, f)
 
   -- the test of one handle
   module _ (h : ℕ) where
     pub record SoundTag : Type 0 where
-      pub sound-table : Sound
+      pub sound-table : Sound p ws
       pub tag-test : notATag ws h ≡ false
       pub below : h < countOf ws
       pub tag : nodeAt ws h .kind ≡ 1
 
-    pub sound-tag : Sound → notATag ws h ≡ false → SoundTag
+    pub sound-tag : Sound p ws → notATag ws h ≡ false → SoundTag
     sound-tag s f =
         let t : (ltb h (countOf ws) && tagged (nodeAt ws h)) ≡ true = not-false (ltb h (countOf ws) && tagged (nodeAt ws h)) f in
         record {

@@ -7,7 +7,7 @@ use lib.ListN.{length, getD}
 use Rattle.rules.specs.Bytes.{isIdent, isQuote, other, is}
 use Rattle.rules.specs.Scan.{pick, skip, here, pass}
 use Rattle.rules.specs.Attributes.{inValue, quotedEnd, valueEnd, valueAt, valueOf, attributeAt, attributeNext, notClosing}
-use Rattle.rules.specs.Lookup.{heldAs, attributes, named, firstOf, lastOf, isLast, lookupFrom}
+use Rattle.rules.specs.Lookup.{Inside, InsideAssigned, heldAs, attributes, named, firstOf, lastOf, isLast, lookupFrom}
 use Rattle.rules.specs.declared.Attribute.{Attribute}
 use Rattle.rules.specs.declared.Held.{Held}
 use Rattle.rules.specs.declared.Held.the-variants.{Absent, Bare, Value}
@@ -16,20 +16,10 @@ use Rattle.rules.specs.declared.Value.the-variants.{Missing, Given}
 use Rattle.rules.proofs.Pick.{cases}
 use Rattle.rules.proofs.Runs.{skip-ge, skip-le}
 
--- a value's places, in order, in a page of n bytes
-abbrev pub Inside : ℕ → Held → Type 0
-Inside n Absent = Unit {0}
-Inside n Bare = Unit {0}
-Inside n (Value a e) = (a ≤ e) × (e ≤ n)
-
 pub inside-more : (m n : ℕ) (v : Held) → m ≤ n → Inside m v → Inside n v
 inside-more m n Absent l i = tt
 inside-more m n Bare l i = tt
 inside-more m n (Value a e) l i = (i .0, omega (arith, i .1))
-
-abbrev pub InsideAssigned : ℕ → Assigned → Type 0
-InsideAssigned n Missing = Unit {0}
-InsideAssigned n (Given a e) = (a ≤ e) × (e ≤ n)
 
 pub held-inside : (n : ℕ) (r : Held) (v : Assigned) → Inside n r → InsideAssigned n v → Inside n (heldAs r v)
 held-inside n r Missing i j = i

@@ -1,5 +1,5 @@
 -- The attribute lookup: a tag's attributes, read again from its name's end, the page taken to end at word 5.
-use Prim.Native.Nat.{ℕ, zero, suc}
+use Prim.Native.Nat.{ℕ, zero, suc, _≤_}
 use mathlib.Core.Bool.{Bool, _||_}
 use mathlib.Core.List.{List, [], _∷_}
 use lib.ListN.{length, take}
@@ -59,6 +59,16 @@ upTo p t = take (t .opened) p
 -- what the tag t of the page p holds for the name k
 abbrev pub lookup : (ℕ → Bool) → List ℕ → Node → List ℕ → Held
 lookup white p t k = lookupFrom white (upTo p t) (t .stop) k
+
+-- a value's places, in order, in a page of n bytes: of what is held, and of what an attribute is given
+abbrev pub Inside : ℕ → Held → Type 0
+Inside n Absent = Unit {0}
+Inside n Bare = Unit {0}
+Inside n (Value a e) = (a ≤ e) × (e ≤ n)
+
+abbrev pub InsideAssigned : ℕ → Assigned → Type 0
+InsideAssigned n Missing = Unit {0}
+InsideAssigned n (Given a e) = (a ≤ e) × (e ≤ n)
 
 -- ---- the same with the value's bytes
 

@@ -1,12 +1,12 @@
 -- The refusals: their numbers and conditions, and what an answer says in the paper's numbers.
 use Prim.Native.Nat.{ℕ, suc, _-_}
-use mathlib.Core.Bool.{Bool, not, _&&_}
+use mathlib.Core.Path.{_≡_}
+use mathlib.Core.Bool.{Bool, true, false, not}
 use mathlib.Core.List.{List, [], _∷_, _++_}
 use lib.Dec.{ltb}
 use lib.ListN.{length, drop, replicate}
 use Rattle.rules.specs.Scan.{pick, part}
-use Rattle.rules.specs.Table.{nodeAt}
-use Rattle.rules.specs.Sound.{countOf, sound, tagged}
+use Rattle.rules.specs.Sound.{sound, isTag}
 use Rattle.rules.specs.declared.Refusal.{Refusal}
 use Rattle.rules.specs.declared.Refusal.the-variants.{PageTooLong, TableTooSmall, TableNotSound, NotATag, SelectorTooLong, SelectorNotRead, BufferTooShort}
 use Rattle.rules.specs.declared.Held.{Held}
@@ -48,7 +48,7 @@ tableNotSound p ws = not (sound (length p) ws)
 
 -- 4
 abbrev pub notATag : List ℕ → ℕ → Bool
-notATag ws h = not (ltb h (countOf ws) && tagged (nodeAt ws h))
+notATag ws h = not (isTag ws h)
 
 -- 5
 abbrev pub selectorTooLong : List ℕ → Bool
@@ -57,6 +57,11 @@ selectorTooLong s = ltb selectorLimit (length s)
 -- 7: the count, where the buffer has room for so many
 abbrev pub counted : ℕ → ℕ → Counted
 counted room n = pick (ltb room n) (Uncounted BufferTooShort) (Count n)
+
+-- neither 1 nor 3: the table is sound for a page that is not too long
+pub record Sound (p ws : List ℕ) : Type 0 where
+  pub short : pageTooLong p ≡ false
+  pub table : sound (length p) ws ≡ true
 
 -- refusals 1 and 3, which every question to a table comes after, and 4, where it is one about a tag
 module _ {A : Type 0} (refused : Refusal → A) (p ws : List ℕ) where

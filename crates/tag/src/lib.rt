@@ -11,12 +11,27 @@ ghost use Prim.Native.Nat.{_+_, _≤_, _<_};
 ghost use lib.ListN.{length};
 ghost use Rattle.rules.specs.Scan.{part, same};
 ghost use Rattle.rules.specs.Lookup.{isLast, heldAs, attributes, firstOf, lastOf, lookupFrom};
-ghost use Rattle.rules.specs.Sound.{countOf, sound};
+ghost use Rattle.rules.specs.Sound.{countOf, sound, isTag};
 ghost use Rattle.rules.specs.Text.{innerText};
 ghost use Rattle.rules.specs.Buffers.{Wrote};
 ghost use Rattle.rules.specs.Answers.{rangeOf};
 ghost use Rattle.scan.specs.Marks.{Marked, whiteIn};
 ghost use Rattle.tag.specs.Tag.{Looked, nextOf, textOf, Sized};
+
+// ---- handles: `table` is sound for a page of `len` bytes
+
+// Whether a handle is a tag's.
+pub fn is_tag(table: &[u32], len: usize, h: usize) -> bool
+    requires { ⌜ sound len (now table) ≡ true ⌝ }
+    ensures { λ r. ⌜ r ≡ isTag (now (table .entry)) h ⌝ }
+{
+    let count = table[0] as usize;
+    if h < count {
+        let n = table::row_at(table, h);
+        return n.kind == 1;
+    }
+    false
+}
 
 // ---- attributes: `t` is the lent table of marks
 

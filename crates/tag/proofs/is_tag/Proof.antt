@@ -1,11 +1,11 @@
--- `calls::is_tag` meets its contract: a sound table has its header and its rows.
+-- `tag::is_tag` meets its contract: a sound table has its header and its rows.
 use mathlib.Core.Path.{ap}
 use native.Mathlib.Omega.{arith}
 use borrow.Author.Tests.{lt-ltb, le-ltb}
 use Rattle.rules.specs.Sound.{countOf, tagged}
 use Rattle.rules.proofs.Sound.{sound-fits}
-use Rattle.calls.proofs.is_tag.Statement.{statement}
-use Rattle.calls.proofs.is_tag.Tie as tie
+use Rattle.tag.proofs.is_tag.Statement.{statement}
+use Rattle.tag.proofs.is_tag.Tie as tie
 
 shared-slice-read-count : tie.Need-shared-slice-read-count
 shared-slice-read-count c = let s = c .before .before in omega (arith, sound-fits (s .args .len) (s .args .table .now) (s .pre))
