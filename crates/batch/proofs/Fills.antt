@@ -4,12 +4,12 @@ use mathlib.Core.Bool.{Bool}
 use mathlib.Core.List.{List}
 use Prim.Native.Nat.{ℕ}
 use lib.ListN.{length}
-use Rattle.rules.specs.Refusals.{filledBy}
+use Rattle.rules.specs.Refusals.{Refuses, filledBy}
 use Rattle.rules.specs.Batch.{batchAnswer}
 use Rattle.rules.specs.declared.Refusal.{Refusal}
 use Rattle.rules.specs.declared.Checked.the-variants.{Refused}
 use Rattle.rules.specs.declared.Counted.{Counted}
-use Rattle.calls.specs.Calls.{Filled, Refuses}
+use Rattle.calls.specs.Calls.{Filled}
 use Rattle.batch.specs.Batch.{tagsChecked, Tags, unless}
 use Rattle.batch.proofs.Checks.{tags-refused, tags-answered}
 

@@ -2,17 +2,15 @@
 use mathlib.Core.Path.{_≡_}
 use mathlib.Core.List.{List}
 use Prim.Native.Nat.{ℕ, _<_}
-use lib.ListN.{length, replicate}
+use lib.ListN.{length}
 use Rattle.rules.specs.Bytes.{isWhite}
 use Rattle.rules.specs.Sound.{countOf}
 use Rattle.rules.specs.Chain.{readSelector}
 use Rattle.rules.specs.Query.{overPage, belowTag}
-use Rattle.rules.specs.Refusals.{counted, filledBy}
+use Rattle.rules.specs.Refusals.{filledBy}
 use Rattle.rules.specs.Answers.{findsOf, selected}
 use Rattle.rules.specs.declared.Piece.{Piece}
-use Rattle.rules.specs.declared.Refusal.{Refusal}
 use Rattle.rules.specs.declared.Counted.{Counted}
-use Rattle.rules.specs.declared.Counted.the-variants.{Refused}
 use Rattle.calls.specs.declared.Scope.{Scope}
 use Rattle.calls.specs.declared.Scope.the-variants.{Page, Below}
 
@@ -20,16 +18,6 @@ use Rattle.calls.specs.declared.Scope.the-variants.{Page, Below}
 pub record Filled (answer : Counted) (buffer : List ℕ) (r : Counted) (out : List ℕ) : Type 0 where
   pub is : r ≡ answer
   pub left : out ≡ buffer
-
--- what was found is counted and written into the lent buffer b, or refused as 7 for lack of room
-pub record Writes (found b : List ℕ) (r : Counted) (out : List ℕ) : Type 0 where
-  pub is : r ≡ counted (length b) (length found)
-  pub left : out ≡ filledBy b found r
-
--- a refusal leaves the lent words all zero
-pub record Refuses (b : List ℕ) (why : Refusal) (r : Counted) (out : List ℕ) : Type 0 where
-  pub is : r ≡ Refused why
-  pub left : out ≡ replicate (length b) 0
 
 -- where a query looks: over the page, or below a tag
 abbrev pub scoped : List ℕ → List ℕ → List ℕ → Scope → List Piece → List ℕ

@@ -13,13 +13,13 @@ ghost use mathlib.Core.Bool.{true};
 ghost use Prim.Native.Nat.{_<_};
 ghost use lib.ListN.{length};
 ghost use Rattle.rules.specs.Bytes.{isWhite};
-ghost use Rattle.rules.specs.Refusals.{asking, askingTag, heldPart};
+ghost use Rattle.rules.specs.Refusals.{Counts, Refuses, asking, askingTag, heldPart};
 ghost use Rattle.rules.specs.Sound.{countOf, sound};
 ghost use Rattle.rules.specs.Text.{innerText};
 ghost use Rattle.rules.specs.Finds.{byClass};
 ghost use Rattle.rules.specs.Lookup.{Inside};
 ghost use Rattle.rules.specs.Answers.{rangeAnswer, textAnswer, textBuffer, attributeAnswer, attributePart, idAnswer, classAnswer, classBuffer, queryAnswer, queryBuffer, queryBelowAnswer, queryBelowBuffer};
-ghost use Rattle.calls.specs.Calls.{Filled, Writes, Refuses, Selects, InScope, scoped};
+ghost use Rattle.calls.specs.Calls.{Filled, Selects, InScope, scoped};
 
 // How deep `inner_text` descends by recursion before a flat walk goes on.
 const DEPTH: usize = 64;
@@ -111,7 +111,7 @@ fn write_text(page: &[u8], table: &[u32], h: usize, out: &mut [u8]) -> Counted
     requires { ⌜ (sound (length (now page)) (now table) ≡ true) × (h < countOf (now table)) ⌝ }
     ensures { λ r. ⌜
         (let text = innerText (now (page .entry)) (now (table .entry)) h in
-        Writes text (now (out .entry)) r (now (out .exit)))
+        Counts text (now (out .entry)) r (now (out .exit)))
         ⌝ }
 {
     let size = tag::text_length(page, table, h);
@@ -163,7 +163,7 @@ fn list_class(page: &[u8], table: &[u32], manner: Manner, class: &[u8], out: &mu
     requires { ⌜ sound (length (now page)) (now table) ≡ true ⌝ }
     ensures { λ r. ⌜
         (let found = byClass isWhite (now (page .entry)) (now (table .entry)) manner (now (class .entry)) in
-        Writes found (now (out .entry)) r (now (out .exit)))
+        Counts found (now (out .entry)) r (now (out .exit)))
         ⌝ }
 {
     let t = scan::mark_table();

@@ -17,8 +17,3 @@ pub record Writes (out : List ℕ) (at : ℕ) (text left : List ℕ) (r : ℕ) :
 pub record Ends (out : List ℕ) (at : ℕ) (left : List ℕ) (r : Counted) : Type 0 where
   pub answer : r ≡ counted (length out) at
   pub bytes : left ≡ filledBy out [] r
-
--- the text is all that is written: it is counted, or refused for lack of room
-pub record Prints (out text left : List ℕ) (r : Counted) : Type 0 where
-  pub answer : r ≡ counted (length out) (length text)
-  pub bytes : left ≡ filledBy out text r

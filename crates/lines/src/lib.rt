@@ -8,12 +8,12 @@ ghost use mathlib.Core.List.{[], _∷_};
 ghost use Prim.Native.Nat.{ℕ};
 ghost use lib.ListN.{length, replicate};
 ghost use Rattle.rules.specs.Sound.{sound};
-ghost use Rattle.rules.specs.Refusals.{numberOf};
+ghost use Rattle.rules.specs.Refusals.{Counts, numberOf};
 ghost use Rattle.rules.specs.declared.Counted.the-variants.{Count};
 ghost use Rattle.lines.specs.Decimal.{decimal};
 ghost use Rattle.lines.specs.Lines.{field, kindName, parentName, nameField, tagName, NameWithin};
 ghost use Rattle.lines.specs.Lines.{nodeLine, headLine, listingText, refusedText, answerText};
-ghost use Rattle.lines.specs.Writes.{Writes, Ends, Prints};
+ghost use Rattle.lines.specs.Writes.{Writes, Ends};
 
 // ---- one text at a place of the buffer; each function answers the place after it
 
@@ -190,7 +190,7 @@ fn number_of(x: Refusal) -> u32
 // The listing of a page, by its table.
 pub fn listing(page: &[u8], table: &[u32], out: &mut [u8]) -> Counted
     requires { ⌜ sound (length (now page)) (now table) ≡ true ⌝ }
-    ensures { λ r. ⌜ Prints (now (out .entry)) (listingText (now (page .entry)) (now (table .entry))) (now (out .exit)) r ⌝ }
+    ensures { λ r. ⌜ Counts (listingText (now (page .entry)) (now (table .entry))) (now (out .entry)) r (now (out .exit)) ⌝ }
 {
     let at = put_listing(out, page, table);
     finish(out, at)
@@ -198,7 +198,7 @@ pub fn listing(page: &[u8], table: &[u32], out: &mut [u8]) -> Counted
 
 // The line of a refusal.
 pub fn refused(x: Refusal, out: &mut [u8]) -> Counted
-    ensures { λ r. ⌜ Prints (now (out .entry)) (refusedText (numberOf x)) (now (out .exit)) r ⌝ }
+    ensures { λ r. ⌜ Counts (refusedText (numberOf x)) (now (out .entry)) r (now (out .exit)) ⌝ }
 {
     let at = put_refused(out, number_of(x));
     finish(out, at)
@@ -207,7 +207,7 @@ pub fn refused(x: Refusal, out: &mut [u8]) -> Counted
 // What is printed where reading the page into the table answered `read`.
 pub fn answer(page: &[u8], table: &[u32], read: Counted, out: &mut [u8]) -> Counted
     requires { ⌜ ((n : ℕ) → read ≡ Count n → sound (length (now page)) (now table) ≡ true) ⌝ }
-    ensures { λ r. ⌜ Prints (now (out .entry)) (answerText (now (page .entry)) (now (table .entry)) read) (now (out .exit)) r ⌝ }
+    ensures { λ r. ⌜ Counts (answerText (now (page .entry)) (now (table .entry)) read) (now (out .entry)) r (now (out .exit)) ⌝ }
 {
     match read {
         Counted::Count(_) => listing(page, table, out),

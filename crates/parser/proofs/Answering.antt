@@ -10,7 +10,7 @@ use Rattle.rules.specs.Bytes.{isWhite}
 use Rattle.rules.specs.Names.{isVoid}
 use Rattle.rules.specs.Reader.{Reading, begin, steps, finished, read}
 use Rattle.rules.specs.Table.{headWords, rowAt, headOf, filled}
-use Rattle.rules.specs.Refusals.{pageLimit}
+use Rattle.rules.specs.Refusals.{Refuses, pageLimit}
 use Rattle.rules.specs.Answers.{parseAnswer, parsedTable, parseTable}
 use Rattle.rules.specs.declared.Refusal.the-variants.{PageTooLong, TableTooSmall}
 use Rattle.rules.specs.declared.Counted.{Counted}
@@ -20,7 +20,7 @@ use Rattle.rules.specs.declared.Progress.{Progress}
 use Rattle.rules.proofs.Table.{filled-none, filled-head}
 use Rattle.laws.proofs.Tree.{last-length}
 use Rattle.tree.specs.Held.{Held, Settled}
-use Rattle.parser.specs.Parsing.{Reads, Run, Holds, Finished, Refuses, Parses}
+use Rattle.parser.specs.Parsing.{Reads, Run, Holds, Finished, Parses}
 use Rattle.parser.proofs.Readings.{good-begin, good-steps}
 
 -- ---- the beginning and the end
@@ -60,24 +60,24 @@ module _ {white : ℕ → Bool} {p t t₂ : List ℕ} {r : Counted} where
   unfolding parseTable
   answers q e w = record { answer = q ∙ sym e; table = rw e w }
 
-  pub parses-long : pageLimit < length p → Refuses t PageTooLong t₂ r → Parses white isVoid p t t₂ r
+  pub parses-long : pageLimit < length p → Refuses t PageTooLong r t₂ → Parses white isVoid p t t₂ r
   unfolding parseAnswer
-  parses-long l Z = answers (Z .answer) (rw (lt-ltb pageLimit (length p) l)) (Z .table)
+  parses-long l Z = answers (Z .is) (rw (lt-ltb pageLimit (length p) l)) (Z .left)
 
   module _ (l : length p ≤ pageLimit) where
-    none : length t < rowAt (countBy white p) → Refuses t TableTooSmall t₂ r → Parses white isVoid p t t₂ r
+    none : length t < rowAt (countBy white p) → Refuses t TableTooSmall r t₂ → Parses white isVoid p t t₂ r
     unfolding parseAnswer
-    none m Z = answers (Z .answer) (rw (le-ltb pageLimit (length p) l, lt-ltb (length t) (rowAt (countBy white p)) m)) (Z .table)
+    none m Z = answers (Z .is) (rw (le-ltb pageLimit (length p) l, lt-ltb (length t) (rowAt (countBy white p)) m)) (Z .left)
 
-    pub parses-short : length t < headWords → Refuses t TableTooSmall t₂ r → Parses white isVoid p t t₂ r
+    pub parses-short : length t < headWords → Refuses t TableTooSmall r t₂ → Parses white isVoid p t t₂ r
     parses-short m = none (omega arith)
 
     -- the steps ran, from t to t₁, with q at last
     module _ (h : headWords ≤ length t) {t₁ : List ℕ} {q : Progress} (X : Run white p (length p) t start t₁ q) where
-      pub parses-full : q .room ≡ false → length t₁ ≡ length t → Refuses t₁ TableTooSmall t₂ r → Parses white isVoid p t t₂ r
+      pub parses-full : q .room ≡ false → length t₁ ≡ length t → Refuses t₁ TableTooSmall r t₂ → Parses white isVoid p t t₂ r
       parses-full full e Z =
           let m = X .full t (take headWords t) begin (held-begin t h) (good-begin white p) full in
-          none (rw (count-same white p) m) (record { answer = Z .answer; table = rw (← e) (Z .table) })
+          none (rw (count-same white p) m) (record { is = Z .is; left = rw (← e) (Z .left) })
 
       pub parses-read : q .room ≡ true → Finished t₁ (q .state) (length p) t₂ → r ≡ Count (q .state .count) → Parses white isVoid p t t₂ r
       unfolding parseAnswer

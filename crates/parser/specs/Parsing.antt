@@ -3,7 +3,7 @@ use mathlib.Core.Path.{_≡_}
 use mathlib.Core.Bool.{Bool, true, false}
 use mathlib.Core.List.{List}
 use Prim.Native.Nat.{ℕ, _≤_, _<_}
-use lib.ListN.{length, replicate}
+use lib.ListN.{length}
 use Rattle.rules.specs.Names.{isVoid}
 use Rattle.rules.specs.Facts.{Fine}
 use Rattle.rules.specs.Reader.{Reading, steps, finished}
@@ -12,9 +12,7 @@ use Rattle.rules.specs.Refusals.{pageLimit}
 use Rattle.rules.specs.Answers.{parseAnswer, parseTable}
 use Rattle.rules.specs.declared.State.{State}
 use Rattle.rules.specs.declared.Progress.{Progress}
-use Rattle.rules.specs.declared.Refusal.{Refusal}
 use Rattle.rules.specs.declared.Counted.{Counted}
-use Rattle.rules.specs.declared.Counted.the-variants.{Refused}
 use Rattle.tree.specs.Held.{Held}
 
 -- ---- the steps
@@ -56,11 +54,6 @@ pub record Finished (t₁ : List ℕ) (s : State) (len : ℕ) (t₂ : List ℕ) 
   pub words : (t hd : List ℕ) (R : Reading) → Held t₁ t hd R s → t₂ ≡ filled t (headOf (s .count) (s .version) len) (finished R .nodes)
 
 -- ---- the answer
-
--- a refused call leaves its table all zero
-pub record Refuses (t₁ : List ℕ) (why : Refusal) (t₂ : List ℕ) (r : Counted) : Type 0 where
-  pub answer : r ≡ Refused why
-  pub table : t₂ ≡ replicate (length t₁) 0
 
 -- the page p was read into the table t₁: the answer and the table afterwards are those of the rules
 pub record Parses (white : ℕ → Bool) (void : List ℕ → Bool) (p t₁ t₂ : List ℕ) (r : Counted) : Type 0 where

@@ -7,9 +7,9 @@ ghost use Prim.Native.Nat.{_≤_};
 ghost use lib.ListN.{length};
 ghost use Rattle.rules.specs.Bytes.{isWhite};
 ghost use Rattle.rules.specs.Names.{isVoid};
-ghost use Rattle.rules.specs.Refusals.{pageLimit};
+ghost use Rattle.rules.specs.Refusals.{Refuses, pageLimit};
 ghost use Rattle.scan.specs.Marks.{Marked, whiteIn};
-ghost use Rattle.parser.specs.Parsing.{Reads, Run, Holds, Finished, Refuses, Parses};
+ghost use Rattle.parser.specs.Parsing.{Reads, Run, Holds, Finished, Parses};
 
 // The longest page that is read, in bytes.
 pub const PAGE_LIMIT: usize = 65536;
@@ -62,7 +62,7 @@ fn finish(table: &mut [u32], s: State, len: u32)
 
 // A refusal leaves the table all zero.
 fn refuse(table: &mut [u32], why: Refusal) -> Counted
-    ensures { λ r. ⌜ Refuses (now (table .entry)) why (now (table .exit)) r ⌝ }
+    ensures { λ r. ⌜ Refuses (now (table .entry)) why r (now (table .exit)) ⌝ }
 {
     table::clear(table);
     Counted::Refused(why)

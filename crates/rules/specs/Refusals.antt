@@ -76,6 +76,16 @@ abbrev pub filledBy : List ℕ → List ℕ → Counted → List ℕ
 filledBy out found (Count n) = found ++ drop (length found) out
 filledBy out found (Uncounted x) = replicate (length out) 0
 
+-- what was found is counted and written into the lent buffer b, or refused as 7 for lack of room
+pub record Counts (found b : List ℕ) (r : Counted) (out : List ℕ) : Type 0 where
+  pub is : r ≡ counted (length b) (length found)
+  pub left : out ≡ filledBy b found r
+
+-- a refusal leaves the lent buffer all zero
+pub record Refuses (b : List ℕ) (why : Refusal) (r : Counted) (out : List ℕ) : Type 0 where
+  pub is : r ≡ Uncounted why
+  pub left : out ≡ replicate (length b) 0
+
 -- ---- each answer in numbers: the refusal's number, or 0; the count; then its values
 
 abbrev pub countedNumbers : Counted → List ℕ

@@ -9,12 +9,12 @@ use borrow.Author.Tests.{lt-ltb, le-ltb}
 use lib.ListN.{length, drop, set, replicate, getD, length-append, length-drop}
 use lib.Seq.{drop-cons, set-at}
 use Rattle.rules.specs.Lists.{from, only}
+use Rattle.rules.specs.Refusals.{Counts}
 use Rattle.rules.specs.Answers.{firstFound}
 use Rattle.rules.specs.declared.Counted.the-variants.{Count, Refused}
 use Rattle.rules.specs.declared.Refusal.the-variants.{BufferTooShort}
 use Rattle.rules.specs.declared.Found.the-variants.{At}
 use Rattle.rules.proofs.Lists.{from-append, only-append}
-use Rattle.vdom.specs.Vdom.{Listed}
 
 -- x is stored after xs, which stands at the front of d
 store : (xs d : List ℕ) (n x : ℕ) → length xs ≡ n → n < length d → set (xs ++ drop n d) n x ≡ (xs ++ (x ∷ [])) ++ drop (n + 1) d
@@ -87,19 +87,19 @@ module _ (f : ℕ → Bool) (lo : ℕ) where
 
       -- h is found too, and there is no room for it
       pub walk-short : {left : List ℕ} (count : ℕ) → k < count → f h ≡ true → length out ≤ n → left ≡ replicate (length out) 0
-          → Listed out₀ (among count) left (Refused BufferTooShort)
+          → Counts (among count) out₀ (Refused BufferTooShort) left
       walk-short count l t b e =
           let rest : List ℕ = only f (from (lo + (k + 1)) (count - (k + 1))) in
           let y : length (among count) ≡ length (among k) + suc (length rest) = ap length (cut k h q count l t) ∙ length-append (among k) (h ∷ rest) in
           let z : length out₀ < length (among count) = omega (arith, walk-size, w .number) in
-          record { answer = rw (lt-ltb (length out₀) (length (among count)) z); buffer = e ∙ rw walk-size }
+          record { is = rw (lt-ltb (length out₀) (length (among count)) z); left = e ∙ rw walk-size }
 
     -- all handles were passed
-    pub walk-end : (count : ℕ) → k ≡ count → Listed out₀ (among count) out (Count n)
+    pub walk-end : (count : ℕ) → k ≡ count → Counts (among count) out₀ (Count n) out
     walk-end count q =
         let z : length (among count) ≤ length out₀ = rw (← q, ← w .number) (w .room) in
         let m : n ≡ length (among count) = rw (← q) (w .number) in
         record {
-          answer = rw (le-ltb (length out₀) (length (among count)) z, m);
-          buffer = w .buffer ∙ rw (q, m);
+          is = rw (le-ltb (length out₀) (length (among count)) z, m);
+          left = w .buffer ∙ rw (q, m);
         }

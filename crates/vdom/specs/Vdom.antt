@@ -8,9 +8,7 @@ use lib.ListN.{length}
 use Rattle.rules.specs.Table.{nodeAt}
 use Rattle.rules.specs.Finds.{nodeClassTimes}
 use Rattle.rules.specs.Query.{nodeFits, meaning}
-use Rattle.rules.specs.Refusals.{counted, filledBy}
 use Rattle.rules.specs.declared.Node.{Node}
-use Rattle.rules.specs.declared.Counted.{Counted}
 use Rattle.piece.specs.Words.{piecesFrom}
 use Rattle.vdom.specs.declared.Ask.{Ask}
 use Rattle.vdom.specs.declared.Ask.the-variants.{Class, Chain}
@@ -24,8 +22,3 @@ module _ (white : ℕ → Bool) (p s words : List ℕ) (pieces : ℕ) where
   -- and row h of the table ws
   abbrev pub rowAsks : Ask → List ℕ → ℕ → Bool
   rowAsks a ws h = asks a (nodeAt ws h)
-
--- what was found is listed in the buffer `out`: `left` is what is in it afterwards, r the answer
-pub record Listed (out found left : List ℕ) (r : Counted) : Type 0 where
-  pub answer : r ≡ counted (length out) (length found)
-  pub buffer : left ≡ filledBy out found r

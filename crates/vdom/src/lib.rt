@@ -13,11 +13,12 @@ ghost use Rattle.rules.specs.Lists.{from, only};
 ghost use Rattle.rules.specs.Sound.{countOf, sound};
 ghost use Rattle.rules.specs.Finds.{byId, byClass};
 ghost use Rattle.rules.specs.Query.{overPage, belowTag};
+ghost use Rattle.rules.specs.Refusals.{Counts};
 ghost use Rattle.rules.specs.Answers.{firstFound};
 ghost use Rattle.scan.specs.Marks.{Marked, whiteIn};
 ghost use Rattle.piece.specs.Words.{pieceWords, piecesFrom};
 ghost use Rattle.matching.specs.Matching.{Placed};
-ghost use Rattle.vdom.specs.Vdom.{Listed, asks, rowAsks};
+ghost use Rattle.vdom.specs.Vdom.{asks, rowAsks};
 
 // How many rows the table has.
 fn row_count(table: &[u32]) -> usize
@@ -69,7 +70,7 @@ fn find_all(
     requires { ⌜ (pieceWords * pieces ≤ length (now words)) × (lo + count ≤ countOf (now table)) ⌝ }
     ensures { λ r. ⌜
         (let f = rowAsks (whiteIn (now (t .entry))) (now (page .entry)) (now (s .entry)) (now (words .entry)) pieces ask (now (table .entry)) in
-        Listed (now (out .entry)) (only f (from lo count)) (now (out .exit)) r)
+        Counts (only f (from lo count)) (now (out .entry)) r (now (out .exit)))
         ⌝ }
 {
     let mut n: usize = 0;
@@ -120,7 +121,7 @@ pub fn class_scan(
     requires { ⌜ Marked (now t) × (sound (length (now page)) (now table) ≡ true) ⌝ }
     ensures { λ r. ⌜
         (let finds = byClass (whiteIn (now (t .entry))) (now (page .entry)) (now (table .entry)) Manner.Scan (now (name .entry)) in
-        Listed (now (out .entry)) finds (now (out .exit)) r)
+        Counts finds (now (out .entry)) r (now (out .exit)))
         ⌝ }
 {
     let count = row_count(table);
@@ -141,7 +142,7 @@ pub fn query(
     requires { ⌜ Marked (now t) × (sound (length (now page)) (now table) ≡ true) × (pieceWords * pieces ≤ length (now words)) ⌝ }
     ensures { λ r. ⌜
         (let finds = overPage (whiteIn (now (t .entry))) (now (page .entry)) (now (table .entry)) (now (s .entry)) in
-        Listed (now (out .entry)) (finds (piecesFrom pieces (now (words .entry)) 0)) (now (out .exit)) r)
+        Counts (finds (piecesFrom pieces (now (words .entry)) 0)) (now (out .entry)) r (now (out .exit)))
         ⌝ }
 {
     let count = row_count(table);
@@ -163,7 +164,7 @@ pub fn query_below(
     requires { ⌜ (pieceWords * pieces ≤ length (now words)) × (h < countOf (now table)) ⌝ }
     ensures { λ r. ⌜
         (let finds = belowTag (whiteIn (now (t .entry))) (now (page .entry)) (now (table .entry)) (now (s .entry)) h in
-        Listed (now (out .entry)) (finds (piecesFrom pieces (now (words .entry)) 0)) (now (out .exit)) r)
+        Counts (finds (piecesFrom pieces (now (words .entry)) 0)) (now (out .entry)) r (now (out .exit)))
         ⌝ }
 {
     let row = table::row_at(table, h);

@@ -5,7 +5,7 @@ use Rattle.calls.proofs.list_class.Tie as tie
 
 returns : tie.Need-returns
 returns c =
-    let w = rw (c .before .before .before .before .before .before .before .mark-table .ensures .white) at (c .before .before .class-scan .ensures) in rw (c .before .before .before .before .before .enum-told .given .1) (record { is = w .answer; left = w .buffer })
+    let w = rw (c .before .before .before .before .before .before .before .mark-table .ensures .white) at (c .before .before .class-scan .ensures) in rw (c .before .before .before .before .before .enum-told .given .1) w
 
 class-scan-requires : tie.Need-class-scan-requires
 class-scan-requires c κs = (c .before .before .before .before .mark-table .ensures .marked, c .before .before .before .before .before .before .before .before .before .pre)
@@ -15,7 +15,7 @@ class-closed-requires c κs = (c .before .before .before .before .mark-table .en
 
 returns-2 : tie.Need-returns-2
 returns-2 c =
-    let w = rw (c .before .before .before .before .before .before .before .mark-table .ensures .white) at (c .before .before .class-closed .ensures) in rw (c .before .before .before .before .before .enum-told2 .given .1) (record { is = w .0; left = w .1 })
+    let w = rw (c .before .before .before .before .before .before .before .mark-table .ensures .white) at (c .before .before .class-closed .ensures) in rw (c .before .before .before .before .before .enum-told2 .given .1) w
 
 pub list-class-spec : {M : Type 1} → statement M
 list-class-spec =
