@@ -1,4 +1,5 @@
 //! Our calls beside tl's: the same pages, the same driver, one run. Prints a table of times and ratios.
+mod linear;
 mod ours;
 mod pages;
 mod theirs;
@@ -9,6 +10,9 @@ use timing::best;
 
 /// tl descends by recursion, as deep as a page nests.
 const STACK: usize = 4 << 30;
+
+/// The word that asks for the times at half the length.
+const LINEAR: &str = "linear";
 
 /// What is measured of one page: our time and tl's, in nanoseconds.
 struct Row {
@@ -139,6 +143,9 @@ fn main() {
             if only.is_empty() || only.iter().any(|part| page.name.contains(part.as_str())) {
                 report(&page);
             }
+        }
+        if only.is_empty() || only.iter().any(|part| part == LINEAR) {
+            linear::report();
         }
     };
     let thread = std::thread::Builder::new()

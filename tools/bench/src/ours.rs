@@ -208,6 +208,21 @@ impl<'a> Reader<'a> {
 
     /// The text of the first of them.
     pub fn text(&mut self) {
+        self.text_of(self.finds[0] as usize);
+    }
+
+    /// Whether a node is a tag.
+    pub fn is_tag(&self, handle: usize) -> bool {
+        handle < self.nodes() && self.table[8 + 8 * handle] == 1
+    }
+
+    /// Takes the words as the page's table.
+    pub fn lend(&mut self, words: &[u32]) {
+        self.table[..words.len()].copy_from_slice(words);
+    }
+
+    /// The text of a tag.
+    pub fn text_of(&mut self, handle: usize) {
         let mut count = 0;
         // SAFETY: as in `read`.
         let refused = unsafe {
@@ -216,7 +231,7 @@ impl<'a> Reader<'a> {
                 self.page.len(),
                 self.table.as_ptr(),
                 self.table.len(),
-                self.finds[0] as usize,
+                handle,
                 self.text.as_mut_ptr(),
                 self.text.len(),
                 &mut count,

@@ -16,7 +16,8 @@ pub struct Page {
     pub names: [&'static str; 4],
 }
 
-const LIMIT: usize = 65_536;
+/// The longest page.
+pub const LIMIT: usize = 65_536;
 
 /// Repeats what `part` gives for 0, 1, 2, .. between `head` and `tail` as long as the page stays within `size` bytes.
 fn repeated(size: usize, head: &str, tail: &str, part: impl Fn(usize) -> String) -> String {
@@ -55,8 +56,13 @@ const HEAD: &str =
     <!-- generated -->\n<h1 id=\"head\">Executions</h1>\n<table class=\"fills\">\n";
 const TAIL: &str = "</table>\n<p id=\"foot\">End of day</p>\n</body></html>\n";
 
+/// A table of fills of at most so many bytes.
+pub fn rows(size: usize, closed: bool) -> String {
+    repeated(size, HEAD, TAIL, |i| fill(i, closed))
+}
+
 fn execution(name: &'static str, size: usize, closed: bool) -> Page {
-    page(name, repeated(size, HEAD, TAIL, |i| fill(i, closed)))
+    page(name, rows(size, closed))
 }
 
 fn page(name: &'static str, text: String) -> Page {
