@@ -1,21 +1,23 @@
 -- The parts of a row's test, put together.
 --     tag-places, other-places    the places of a tag, and of another node
 --     own-not, own-places         what a row says of itself
+--     under-..                    what it says of its parent, by where the climb stands
 --     next-is                     what a row leaves for the next one
 --     next-not, next-from         what that says of the row, and of the next row's climb
 use mathlib.Core.Path.{_≡_, refl, sym, ap, _∙_}
 use mathlib.Core.Bool.{Bool, true, false, _&&_, _||_, and-true, and-false, and-assoc}
 use mathlib.Core.List.{List}
-use Prim.Native.Nat.{ℕ, _+_}
+use Prim.Native.Nat.{ℕ, suc, _+_, _-_, _≤_, _<_}
+use native.Mathlib.Decide.{decLe}
 use native.Mathlib.Numerals.{add-one}
 use native.Mathlib.Omega.{arith}
-use borrow.Author.Tests.{ltb-true, leb-true, eqb-false, le-leb, ne-eqb}
+use borrow.Author.Tests.{ltb-true, leb-true, eqb-true, eqb-false, le-leb, lt-leb, eq-eqb, ne-eqb}
 use lib.Dec.{leb, ltb, eqb}
 use Rattle.rules.specs.Scan.{pick}
 use Rattle.rules.specs.Table.{nodeAt}
 use Rattle.rules.specs.declared.Node.{Node}
 use Rattle.rules.specs.Sound.{tagged, placesSound, lastAt, reaching, parentAt, rowSound}
-use Rattle.rules.proofs.Sound.{and-left, and-right, sound-row, climb-step, reaching-le}
+use Rattle.rules.proofs.Sound.{and-left, and-right, sound-row, climb-step, reaching-le, reaching-here, reaching-pass}
 use Rattle.sound.specs.declared.Next.{Next}
 use Rattle.sound.specs.declared.Next.the-variants.{From, Unsound}
 use Rattle.sound.specs.Row.{ownSound, underSound, Starts, nextOf}
@@ -67,15 +69,70 @@ module _ (len count h : ℕ) (n : Node) where
 
 -- ---- a row and its parent
 
+-- the climb for row h stands at p: what reaches h among the rows below p is what reaches it among all rows below h
+module _ (ws : List ℕ) (h p : ℕ) (s : reaching (lastAt ws) h p ≡ parentAt ws h) (n : Node) where
+  abbrev Under : Bool → Type 0
+  Under r = r ≡ underSound ws (parentAt ws h) n
+
+  another : (k : ℕ) → parentAt ws h ≡ k → (k ≡ n .parent → ⊥) → Under false
+  another k e d = rw (e, ne-eqb (n .parent) k (λ q. d (sym q)))
+
+  top : p ≡ 0 → parentAt ws h ≡ 0
+  unfolding reaching
+  top z = sym s ∙ ap (reaching (lastAt ws) h) z
+
+  pub under-none : p ≡ 0 → (p ≡ n .parent → ⊥) → Under false
+  under-none z d = another 0 (top z) (λ q. d (z ∙ q))
+
+  pub under-top : p ≡ 0 → p ≡ n .parent → Under true
+  under-top z e = rw (top z, eq-eqb (n .parent) 0 (sym e ∙ z))
+
+  -- row k, the one before p
+  module _ (k : ℕ) (q : p ≡ suc k) where
+    -- it reaches h
+    here : h ≤ lastAt ws k → parentAt ws h ≡ p
+    here l = sym s ∙ ap (reaching (lastAt ws) h) q ∙ reaching-here (lastAt ws) h k l ∙ sym q
+
+    -- it does not
+    beyond : lastAt ws k < h → parentAt ws h ≤ k
+    beyond l =
+        let e : parentAt ws h ≡ reaching (lastAt ws) h k = sym s ∙ ap (reaching (lastAt ws) h) q ∙ reaching-pass (lastAt ws) h k l in
+        omega (arith, reaching-le (lastAt ws) h k)
+
+    pub under-other : h ≤ lastAt ws k → (p ≡ n .parent → ⊥) → Under false
+    under-other l d = another p (here l) d
+
+    pub under-parent : p ≡ n .parent → h ≤ n .last → Under (leb (n .last) (lastAt ws k))
+    under-parent e l = go (decLe h (lastAt ws k))
+      where
+        go : Dec (h ≤ lastAt ws k) → Under (leb (n .last) (lastAt ws k))
+        go (yes m) =
+            let z : p ≡ 0 → ⊥ = λ z. omega arith in
+            let f : p - 1 ≡ k = omega arith in
+            rw (here m, eq-eqb (n .parent) p (sym e), ne-eqb p 0 z, f)
+        go (no m) =
+            let b = beyond (omega arith) in
+            rw (lt-leb (n .last) (lastAt ws k) (omega arith)) (another (parentAt ws h) refl (λ z. omega arith))
+
 module _ (len : ℕ) (ws : List ℕ) (count h : ℕ) where
   row-is : rowSound len ws count h ≡ (ownSound len count h (nodeAt ws h) && underSound ws (parentAt ws h) (nodeAt ws h))
   row-is = simp and-assoc
 
-  -- by the node n, its parent p, and the three tests at their values
-  pub next-is : (n : Node) (p : ℕ) → n ≡ nodeAt ws h → p ≡ parentAt ws h → {a b c : Bool}
-      → ownSound len count h n ≡ a → underSound ws p n ≡ b → tagged n ≡ c
-      → pick (a && b) (From (pick c (h + 1) p)) Unsound ≡ nextOf len ws count h
-  next-is n p en ep ea eb ec = rw (row-is, ← en, ← ep, ea, eb, ec)
+  -- by the node n, and the three tests at their values
+  pub next-is : (n : Node) → n ≡ nodeAt ws h → {a b c : Bool}
+      → ownSound len count h n ≡ a → underSound ws (parentAt ws h) n ≡ b → tagged n ≡ c
+      → pick (a && b) (From (pick c (h + 1) (parentAt ws h))) Unsound ≡ nextOf len ws count h
+  next-is n en ea eb ec = rw (row-is, ← en, ea, eb, ec)
+
+  -- a node that is right about its parent names it
+  pub own-parent : (n : Node) → underSound ws (parentAt ws h) n ≡ true → n .parent ≡ parentAt ws h
+  own-parent n e = eqb-true (n .parent) (parentAt ws h) (and-left (eqb (n .parent) (parentAt ws h)) _ e)
+
+  pub own-last : (n : Node) → ownSound len count h n ≡ true → h ≤ n .last
+  own-last n e =
+      let last = and-right (placesSound len n) (lastSound len count h n) e in
+      let low = and-left (leb h (n .last) && ltb (n .last) count) (tagged n || eqb (n .last) h) last in
+      leb-true h (n .last) (and-left (leb h (n .last)) (ltb (n .last) count) low)
 
   pub next-not : (r : Next) → r ≡ nextOf len ws count h → r ≡ Unsound → rowSound len ws count h ≡ false
   next-not r e u = go (rowSound len ws count h) _ (sym e ∙ u)

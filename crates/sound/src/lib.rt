@@ -60,40 +60,30 @@ fn own_sound(n: Node, len: usize, count: usize, h: usize) -> bool
 
 // ---- a row and its parent
 
-// The greatest handle below h whose last reaches h, plus 1, or 0. It climbs from row `from` - 1 through parents, which are
-// right below h: the rows between a row and its parent end before that row, so they cannot reach h either.
-fn climb(table: &[u32], h: usize, from: usize) -> usize
-    requires { ⌜ (rowAt h ≤ length (now table)) × Starts (now table) h from ⌝ }
+// What the node n of row h says of its parent. It climbs from row `from` - 1 through parents, which are right below h, as far as
+// n's own: no row that is passed may reach h. The rows between a row and its parent end before that row, so they cannot either.
+fn under(table: &[u32], n: Node, h: usize, from: usize) -> bool
+    requires { ⌜ (rowAt h ≤ length (now table)) × Starts (now table) h from × (h ≤ n .last) ⌝ }
     requires { ⌜ ((j : ℕ) → j < h → nodeAt (now table) j .parent ≡ parentAt (now table) j) ⌝ }
-    ensures { λ r. ⌜ (r ≡ parentAt (now (table .entry)) h) × (r ≤ h) ⌝ }
-{
-    let mut p = from;
-    while 0 < p {
-        let k = p - 1;
-        let n = table::row_at(table, k);
-        let last = n.last as usize;
-        if h <= last {
-            return p;
-        }
-        p = n.parent as usize;
-    }
-    0
-}
-
-// What a node says of its parent, where p is that one's handle plus 1, or 0.
-fn under(table: &[u32], n: Node, p: usize) -> bool
-    requires { ⌜ rowAt p ≤ length (now table) ⌝ }
-    ensures { λ r. ⌜ r ≡ underSound (now (table .entry)) p n ⌝ }
+    ensures { λ r. ⌜ r ≡ underSound (now (table .entry)) (parentAt (now (table .entry)) h) n ⌝ }
 {
     let parent = n.parent as usize;
-    if parent != p {
-        return false;
+    let mut p = from;
+    while p != parent {
+        if p == 0 {
+            return false;
+        }
+        let m = table::row_at(table, p - 1);
+        let last = m.last as usize;
+        if h <= last {
+            return false;
+        }
+        p = m.parent as usize;
     }
     if p == 0 {
         return true;
     }
-    let k = p - 1;
-    let m = table::row_at(table, k);
+    let m = table::row_at(table, p - 1);
     n.last <= m.last
 }
 
@@ -113,14 +103,13 @@ fn row_sound(table: &[u32], len: usize, count: usize, h: usize, from: usize) -> 
     if !own_sound(n, len, count, h) {
         return Next::Unsound;
     }
-    let p = climb(table, h, from);
-    if !under(table, n, p) {
+    if !under(table, n, h, from) {
         return Next::Unsound;
     }
     if n.kind == 1 {
         return Next::From(h + 1);
     }
-    Next::From(p)
+    Next::From(n.parent as usize)
 }
 
 // All rows.
