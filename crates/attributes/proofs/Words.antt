@@ -1,19 +1,18 @@
 -- The words of the names of a text, three each.
 use mathlib.Core.Path.{_≡_, refl, ap, sym, _∙_}
-use mathlib.Core.List.{List, [], _∷_, _++_, append-assoc, append-nil}
-use Prim.Native.Nat.{ℕ, suc, _+_, _*_, _-_, _≤_, _<_}
-use native.Mathlib.Numerals.{add-one}
+use mathlib.Core.List.{List, [], _∷_, _++_}
+use Prim.Native.Nat.{ℕ, zero, suc, _+_, _*_, _-_, _≤_, _<_}
+use native.Mathlib.Decide.{decLt}
 use native.Mathlib.Omega.{arith}
-use lib.ListN.{length, take, drop, getD, replicate, length-append, drop-of-length-le}
-use lib.Seq.{drop-cons, drop-drop, take-all, take-at, drop-at, length-take-le}
-use borrow.Rule.Slice.PartMut.{putMid, same-len-mid, mid-len, post-is}
+use lib.ListN.{length, take, drop, getD, replicate, length-append, length-drop, take-append-drop}
+use lib.Seq.{drop-drop, take-all, take-at, drop-at, take-append-le, drop-append-le, length-take-le}
+use borrow.Rule.Slice.PartMut.{putMid, postOf, same-len-mid, mid-len, take-put, drop-put}
 use Rattle.rules.specs.Scan.{part}
 use Rattle.rules.specs.Refusals.{heldNumbers}
 use Rattle.rules.specs.Batch.{eachName}
-use Rattle.rules.specs.declared.Attribute.{Attribute}
 use Rattle.rules.specs.declared.Held.{Held}
 use Rattle.rules.specs.declared.Held.the-variants.{Absent, Bare, Value}
-use Rattle.attributes.specs.Noting.{heldWords, noted, Notes, NotesAll}
+use Rattle.attributes.specs.Noting.{wordsOf}
 
 pub held-length : (v : Held) → length (heldNumbers v) ≡ 3
 held-length Absent = refl
@@ -40,80 +39,73 @@ module _ (s : List ℕ) where
       let z : 3 * suc (length es) ≡ suc (suc (suc (3 * length es))) = omega arith in
       rw z (ap (λ (l : List ℕ). 0 ∷ 0 ∷ 0 ∷ l) (names-absent e es))
 
-  -- the name that ends at place j, and those after it
-  module _ (f : List ℕ → List ℕ) (at : ℕ) (es : List ℕ) (j : ℕ) where
-    pub names-next : j < length es → eachName f s at (drop j es) ≡ f (part s at (getD es j 0)) ++ eachName f s (getD es j 0) (drop (j + 1) es)
+  -- ---- the words of a name, where each name gives three
+  module _ (f : List ℕ → List ℕ) (three : (k : List ℕ) → length (f k) ≡ 3) where
+    -- name j, if the first starts at `at`
+    abbrev name : ℕ → List ℕ → ℕ → List ℕ
+    name at es j = part s (getD (at ∷ es) j 0) (getD es j 0)
+
+    pub words-at : (at : ℕ) (es : List ℕ) (j : ℕ) → j < length es → wordsOf j (eachName f s at es) ≡ f (name at es j)
     unfolding eachName
-    names-next l = rw (add-one, drop-cons es j 0 l)
+    words-at at [] j l = absurd (omega arith)
+    words-at at (e ∷ es) zero l = take-at (f (part s at e)) (eachName f s e es) 3 (three (part s at e))
+    words-at at (e ∷ es) (suc j) l =
+        let z : 3 * suc j ≡ 3 + 3 * j = omega arith in
+        rw (z, ← drop-drop (3 * j) 3 (f (part s at e) ++ eachName f s e es), drop-at (f (part s at e)) (eachName f s e es) 3 (three (part s at e)))
+        (words-at e es j (omega arith))
 
-    pub names-end : length es ≤ j → eachName f s at (drop j es) ≡ []
+    -- and all the words by each name's
+    pub words-by : (at : ℕ) (es w : List ℕ) → length w ≡ 3 * length es → ((j : ℕ) → j < length es → wordsOf j w ≡ f (name at es j)) → w ≡ eachName f s at es
     unfolding eachName
-    names-end l = rw (drop-of-length-le es l)
+    words-by at [] w n q = sym (take-all 0 w (omega arith))
+    words-by at (e ∷ es) w n q =
+        sym (take-append-drop 3 w)
+        ∙ rw (q 0 (omega arith))
+        (ap (λ (l : List ℕ). f (part s at e) ++ l)
+        (words-by e es (drop 3 w) (omega (arith, length-drop 3 w))
+        (λ j l.
+        let z : 3 * suc j ≡ 3 + 3 * j = omega arith in
+        rw (drop-drop (3 * j) 3 w, ← z) (q (suc j) (omega arith)))))
 
--- the attribute a was noted in the words of the first j names, which were w₀ and are w; the next name starts at `at`
-module _ (p : List ℕ) (a : Attribute) (s es : List ℕ) where
-  abbrev new : (List ℕ → Held) → List ℕ → Held
-  new f k = noted p a k (f k)
+-- ---- a name's words lie in the first m words, or behind them
+module _ (i m : ℕ) (w : List ℕ) where
+  words-front : m ≤ length w → 3 * i + 3 ≤ m → wordsOf i w ≡ wordsOf i (take m w)
+  words-front n l =
+      let size : length (take m w) ≡ m = length-take-le m w n in
+      ap (wordsOf i) (sym (take-append-drop m w))
+      ∙ rw (drop-append-le (3 * i) (take m w) (drop m w) (omega arith))
+      (take-append-le 3 (drop (3 * i) (take m w)) (drop m w) (omega (arith, length-drop (3 * i) (take m w))))
 
-  abbrev from : (List ℕ → Held) → ℕ → ℕ → List ℕ
-  from f at j = eachName (λ k. heldNumbers (f k)) s at (drop j es)
+  words-back : m ≤ 3 * i → wordsOf i w ≡ take 3 (drop (3 * i - m) (drop m w))
+  words-back l =
+      let z : m + (3 * i - m) ≡ 3 * i = omega arith in
+      sym (rw (drop-drop (3 * i - m) m w, z))
 
-  pub record Noting (w₀ : List ℕ) (j at : ℕ) (w : List ℕ) : Type 0 where
-    pub low : j ≤ length es
-    pub size : length w ≡ length w₀
-    pub before : (f : List ℕ → Held) → w₀ ≡ heldWords f s es → drop (3 * j) w ≡ from f at j
-    pub after : (f : List ℕ → Held) → w₀ ≡ heldWords f s es → take (3 * j) w ++ from (new f) at j ≡ heldWords (new f) s es
+-- ---- the words x are put in the place of name j's
+module _ (w : List ℕ) (j : ℕ) (x : List ℕ) (room : 3 * j + 3 ≤ length w) (n : length x ≡ length (part w (3 * j) (3 * j + 3))) where
+  abbrev put : List ℕ
+  put = putMid (3 * j) (3 * j + 3 - 3 * j) w x
 
-  pub noting-none : (w : List ℕ) → Noting w 0 0 w
-  noting-none w = record { low = omega arith; size = refl; before = λ f q. q; after = λ f q. refl }
+  three : length x ≡ 3
+  three = omega (arith, mid-len (3 * j) (3 * j + 3) w room)
 
-  module _ {w₀ w : List ℕ} {j at : ℕ} (n : Noting w₀ j at w) where
-    module _ (l : j < length es) (r : length w₀ ≡ 3 * length es) where
-      abbrev e : ℕ
-      e = getD es j 0
+  pub put-size : length put ≡ length w
+  put-size = same-len-mid (3 * j) (3 * j + 3 - 3 * j) w x n
 
-      abbrev lo : ℕ
-      lo = 3 * j
+  pub put-its : wordsOf j put ≡ x
+  put-its =
+      rw (drop-at (take (3 * j) w) (x ++ postOf (3 * j) (3 * j + 3 - 3 * j) w) (3 * j) (length-take-le (3 * j) w (omega arith)))
+      (take-at x _ 3 three)
 
-      abbrev hi : ℕ
-      hi = 3 * j + 3
-
-      -- the words of the next name
-      next-words : (f : List ℕ → Held) → w₀ ≡ heldWords f s es → part w lo hi ≡ heldNumbers (f (part s at e))
-      next-words f q =
-          let z : hi - lo ≡ 3 = omega arith in
-          rw (z, n .before f q, names-next s (λ k. heldNumbers (f k)) at es j l) (take-at (heldNumbers (f (part s at e))) _ 3 (held-length (f (part s at e))))
-
-      -- they are noted, and are then x
-      pub noting-more : (x : List ℕ) → length x ≡ length (part w lo hi) → Notes p a (part s at e) (part w lo hi) x → Noting w₀ (j + 1) e (putMid lo (hi - lo) w x)
-      noting-more x m t =
-          let room : hi ≤ length w = omega (arith, n .size) in
-          let three : length x ≡ 3 = omega (arith, mid-len lo hi w room) in
-          let z : 3 * (j + 1) ≡ hi = omega arith in
-          let size : length (take lo w ++ x) ≡ hi = omega (arith, length-append (take lo w) x, length-take-le lo w (omega arith)) in
-          let cut : putMid lo (hi - lo) w x ≡ (take lo w ++ x) ++ drop hi w =
-          rw (post-is lo hi w (omega arith)) (sym (append-assoc (take lo w) x (drop hi w))) in
-          record {
-            low = omega arith;
-            size = same-len-mid lo (hi - lo) w x m ∙ n .size;
-            before =
-                λ f q.
-                let g : List ℕ = heldNumbers (f (part s at e)) in
-                rw (cut, z) (drop-at (take lo w ++ x) (drop hi w) hi size
-                ∙ sym (drop-drop 3 lo w)
-                ∙ ap (drop 3) (n .before f q ∙ names-next s (λ k. heldNumbers (f k)) at es j l)
-                ∙ drop-at g _ 3 (held-length (f (part s at e))));
-            after =
-                λ f q.
-                let is : x ≡ heldNumbers (new f (part s at e)) = t (f (part s at e)) (next-words f q) in
-                rw (cut, z) (ap (λ (h : List ℕ). h ++ from (new f) e (j + 1)) (take-at (take lo w ++ x) (drop hi w) hi size ∙ ap (λ (y : List ℕ). take lo w ++ y) is)
-                ∙ append-assoc (take lo w) (heldNumbers (new f (part s at e))) (from (new f) e (j + 1))
-                ∙ ap (λ (h : List ℕ). take lo w ++ h) (sym (names-next s (λ k. heldNumbers (new f k)) at es j l))
-                ∙ n .after f q);
-          }
-
-    -- in those of all names
-    pub noting-all : length es ≤ j → length w₀ ≡ 3 * length es → NotesAll p a s es w₀ w
-    noting-all l r f q =
-        let all : take (3 * j) w ≡ w = take-all (3 * j) w (omega (arith, n .size)) in
-        sym (append-nil w) ∙ rw (all, names-end s (λ k. heldNumbers (new f k)) at es j l) at (n .after f q)
+  pub put-others : (i : ℕ) → (i ≡ j → ⊥) → wordsOf i put ≡ wordsOf i w
+  put-others i d = go (decLt i j)
+    where
+      go : Dec (i < j) → wordsOf i put ≡ wordsOf i w
+      go (yes l) =
+          words-front i (3 * j) put (omega (arith, put-size)) (omega arith)
+          ∙ ap (wordsOf i) (take-put (3 * j) (3 * j + 3 - 3 * j) w x (omega arith))
+          ∙ sym (words-front i (3 * j) w (omega arith) (omega arith))
+      go (no l) =
+          words-back i (3 * j + 3) put (omega arith)
+          ∙ ap (λ (l : List ℕ). take 3 (drop (3 * i - (3 * j + 3)) l)) (drop-put (3 * j) (3 * j + 3) w x (omega arith) room (omega (arith, three)))
+          ∙ sym (words-back i (3 * j + 3) w (omega arith))

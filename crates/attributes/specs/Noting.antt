@@ -1,7 +1,8 @@
 -- What the attributes of a tag that were read so far hold for each name, and what one more makes of it.
 use mathlib.Core.Path.{_≡_}
 use mathlib.Core.List.{List}
-use Prim.Native.Nat.{ℕ, _≤_}
+use Prim.Native.Nat.{ℕ, _*_, _≤_}
+use lib.ListN.{length, take, drop}
 use Rattle.rules.specs.Scan.{pick, part, same}
 use Rattle.rules.specs.Lookup.{InsideAssigned, isLast, heldAs}
 use Rattle.rules.specs.Refusals.{pageLimit, heldNumbers}
@@ -9,6 +10,7 @@ use Rattle.rules.specs.Batch.{eachName}
 use Rattle.rules.specs.declared.Attribute.{Attribute}
 use Rattle.rules.specs.declared.Held.{Held}
 use Rattle.rules.specs.declared.Held.the-variants.{Absent, Bare, Value}
+use Rattle.attributes.specs.Slots.{nameAt}
 
 -- the three words of each name of the text s, which end at the places; f is what is held for a name
 abbrev pub heldWords : (List ℕ → Held) → List ℕ → List ℕ → List ℕ
@@ -31,7 +33,17 @@ noted p a k v =
 abbrev pub Notes : List ℕ → Attribute → List ℕ → List ℕ → List ℕ → Type 0
 Notes p a k w w₁ = (v : Held) → w ≡ heldNumbers v → w₁ ≡ heldNumbers (noted p a k v)
 
--- the words w of all names, afterwards w₁
+-- the words of name j
+abbrev pub wordsOf : ℕ → List ℕ → List ℕ
+wordsOf j w = take 3 (drop (3 * j) w)
+
+-- the words w of all names, afterwards w₁: name j's were noted, the others are as they were
+pub record NotesOne (p : List ℕ) (a : Attribute) (s es : List ℕ) (j : ℕ) (w w₁ : List ℕ) : Type 0 where
+  pub size : length w₁ ≡ length w
+  pub its : Notes p a (nameAt s es j) (wordsOf j w) (wordsOf j w₁)
+  pub others : (i : ℕ) → (i ≡ j → ⊥) → wordsOf i w₁ ≡ wordsOf i w
+
+-- each name's were noted
 abbrev pub NotesAll : List ℕ → Attribute → List ℕ → List ℕ → List ℕ → List ℕ → Type 0
 NotesAll p a s es w w₁ = (f : List ℕ → Held) → w ≡ heldWords f s es → w₁ ≡ heldWords (λ k. noted p a k (f k)) s es
 

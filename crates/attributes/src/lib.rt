@@ -1,6 +1,7 @@
 // What one tag holds for several attribute names, by one reading of its attributes. The names stand in one text, `names`, each
 // from the end of the one before up to its place in `ends`. Each has three words: which of the three held (0 absent, 1 without
-// a value, 2 with a value), and where a value starts and ends.
+// a value, 2 with a value), and where a value starts and ends. An attribute finds the one name that it may have by a table of 256
+// slots, which a caller makes once, by `slot_table`, and lends down.
 use rules::Attribute;
 use rules::Held;
 use rules::Node;
@@ -8,12 +9,16 @@ use rules::Value;
 use tag::Next;
 ghost use mathlib.Core.Path.{_≡_};
 ghost use mathlib.Core.List.{[], _∷_};
-ghost use Prim.Native.Nat.{_*_, _≤_, _<_};
-ghost use lib.ListN.{length};
+ghost use Prim.Native.Nat.{suc, _*_, _≤_, _<_};
+ghost use lib.ListN.{length, getD};
 ghost use Rattle.rules.specs.Lookup.{Inside, lookup, lookupFrom};
 ghost use Rattle.rules.specs.Refusals.{pageLimit, heldNumbers};
 ghost use Rattle.scan.specs.Marks.{Marked, whiteIn};
-ghost use Rattle.attributes.specs.Noting.{Placed, heldWords, Notes, NotesAll};
+ghost use Rattle.attributes.specs.Noting.{Placed, heldWords, Notes, NotesOne, NotesAll};
+ghost use Rattle.attributes.specs.Slots.{nameAt, slotOf, many, Slotted};
+
+// What the slot of several names holds, and of one whose number is too large for a byte.
+const MANY: u8 = 255;
 
 // Writes the three words.
 fn write_three(words: &mut [u32], which: u32, start: u32, end: u32)
@@ -56,28 +61,130 @@ fn note(words: &mut [u32], page: &[u8], a: Attribute, name: &[u8])
     }
 }
 
-// The same for each name.
-fn note_all(page: &[u8], a: Attribute, names: &[u8], ends: &[usize], out: &mut [u32])
+// Where name j starts.
+fn start_of(ends: &[usize], j: usize) -> usize
+    requires { ⌜ j < length (now ends) ⌝ }
+    ensures { λ r. ⌜ r ≡ getD (0 ∷ now (ends .entry)) j 0 ⌝ }
+{
+    if j == 0 {
+        return 0;
+    }
+    ends[j - 1]
+}
+
+// Name j of the text.
+fn name_at<'a>(names: &'a [u8], ends: &[usize], j: usize) -> &'a [u8]
+    requires { ⌜ j < length (now ends) ⌝ }
+    ensures { λ r. ⌜ now r ≡ nameAt (now (names .entry)) (now (ends .entry)) j ⌝ }
+{
+    let start = start_of(ends, j);
+    let end = ends[j];
+    scan::part(names, start, end)
+}
+
+// Notes the attribute for name j.
+fn note_one(page: &[u8], a: Attribute, names: &[u8], ends: &[usize], j: usize, out: &mut [u32])
+    requires { ⌜ (length (now out) ≡ 3 * length (now ends)) × Placed (length (now page)) a × (j < length (now ends)) ⌝ }
+    ensures { λ _. ⌜ NotesOne (now (page .entry)) a (now (names .entry)) (now (ends .entry)) j (now (out .entry)) (now (out .exit)) ⌝ }
+{
+    let name = name_at(names, ends, j);
+    let at = 3 * j;
+    let stop = at + 3;
+    note(&mut out[at..stop], page, a, name);
+}
+
+// Notes it for each name.
+fn note_each(page: &[u8], a: Attribute, names: &[u8], ends: &[usize], out: &mut [u32])
     requires { ⌜ (length (now out) ≡ 3 * length (now ends)) × Placed (length (now page)) a ⌝ }
     ensures { λ _. ⌜ NotesAll (now (page .entry)) a (now (names .entry)) (now (ends .entry)) (now (out .entry)) (now (out .exit)) ⌝ }
 {
-    let mut from = 0;
     let mut j = 0;
     while j < ends.len() {
-        let end = ends[j];
-        let name = scan::part(names, from, end);
-        let at = 3 * j;
-        let stop = at + 3;
-        note(&mut out[at..stop], page, a, name);
-        from = end;
+        note_one(page, a, names, ends, j, out);
         j += 1;
     }
 }
 
+// ---- the slots of names
+
+// A name's slot, by its length and its last byte.
+fn slot_of(name: &[u8]) -> usize
+    ensures { λ r. ⌜ (r ≡ slotOf (now (name .entry))) × (r < 256) ⌝ }
+{
+    let n = name.len();
+    if n == 0 {
+        return 0;
+    }
+    let last = name[n - 1] as usize;
+    (n % 256 + last) % 256
+}
+
+// What a slot holds that held c, when name j has it too.
+fn slot_with(c: u8, j: usize) -> u8
+    ensures { λ r. ⌜ (r < many → (c ≡ 0) × (r ≡ suc j)) ⌝ }
+{
+    if c != 0 {
+        return MANY;
+    }
+    if MANY as usize <= j {
+        return MANY;
+    }
+    (j + 1) as u8
+}
+
+// The slots of all names, for a caller to lend.
+pub fn slot_table(names: &[u8], ends: &[usize]) -> [u8; 256]
+    ensures { λ r. ⌜ Slotted (now (names .entry)) (now (ends .entry)) (length (now (ends .entry))) r ⌝ }
+{
+    let mut slots = [0u8; 256];
+    let mut j = 0;
+    while j < ends.len() {
+        let at = slot_of(name_at(names, ends, j));
+        slots[at] = slot_with(slots[at], j);
+        j += 1;
+    }
+    slots
+}
+
+// Notes the attribute for each name. Its slot says that it is no name's, or at most one's; or it is compared with all.
+fn note_all(
+    slots: &[u8; 256],
+    page: &[u8],
+    a: Attribute,
+    names: &[u8],
+    ends: &[usize],
+    out: &mut [u32],
+)
+    requires { ⌜ Slotted (now names) (now ends) (length (now ends)) (now slots) ⌝ }
+    requires { ⌜ (length (now out) ≡ 3 * length (now ends)) × Placed (length (now page)) a ⌝ }
+    ensures { λ _. ⌜ NotesAll (now (page .entry)) a (now (names .entry)) (now (ends .entry)) (now (out .entry)) (now (out .exit)) ⌝ }
+{
+    let from = a.name;
+    let stop = a.stop;
+    let at = slot_of(&page[from..stop]);
+    let c = slots[at];
+    if c == 0 {
+        return;
+    }
+    if c < MANY {
+        let j = c as usize - 1;
+        return note_one(page, a, names, ends, j, out);
+    }
+    note_each(page, a, names, ends, out);
+}
+
 // Reads the attributes from `start` on once, and notes each.
-fn read_all(t: &[u8; 256], page: &[u8], start: usize, names: &[u8], ends: &[usize], out: &mut [u32])
+fn read_all(
+    t: &[u8; 256],
+    slots: &[u8; 256],
+    page: &[u8],
+    start: usize,
+    names: &[u8],
+    ends: &[usize],
+    out: &mut [u32],
+)
     requires { ⌜ Marked (now t) × (start ≤ length (now page)) × (length (now page) ≤ pageLimit) ⌝ }
-    requires { ⌜ length (now out) ≡ 3 * length (now ends) ⌝ }
+    requires { ⌜ Slotted (now names) (now ends) (length (now ends)) (now slots) × (length (now out) ≡ 3 * length (now ends)) ⌝ }
     ensures { λ _. ⌜
         (let held = lookupFrom (whiteIn (now (t .entry))) (now (page .entry)) start in
         now (out .exit) ≡ heldWords held (now (names .entry)) (now (ends .entry)))
@@ -89,7 +196,7 @@ fn read_all(t: &[u8; 256], page: &[u8], start: usize, names: &[u8], ends: &[usiz
         let Next::Found(a) = tag::next_attribute(t, page, i) else {
             return;
         };
-        note_all(page, a, names, ends, out);
+        note_all(slots, page, a, names, ends, out);
         i = a.next;
     }
 }
@@ -97,6 +204,7 @@ fn read_all(t: &[u8; 256], page: &[u8], start: usize, names: &[u8], ends: &[usiz
 // What the tag n of the page holds for each name.
 pub fn attributes(
     t: &[u8; 256],
+    slots: &[u8; 256],
     page: &[u8],
     n: Node,
     names: &[u8],
@@ -104,7 +212,7 @@ pub fn attributes(
     out: &mut [u32],
 )
     requires { ⌜ Marked (now t) × (n .stop < n .opened) × (n .opened ≤ length (now page)) × (length (now page) ≤ pageLimit) ⌝ }
-    requires { ⌜ length (now out) ≡ 3 * length (now ends) ⌝ }
+    requires { ⌜ Slotted (now names) (now ends) (length (now ends)) (now slots) × (length (now out) ≡ 3 * length (now ends)) ⌝ }
     ensures { λ _. ⌜
         (let held = lookup (whiteIn (now (t .entry))) (now (page .entry)) n in
         now (out .exit) ≡ heldWords held (now (names .entry)) (now (ends .entry)))
@@ -112,5 +220,5 @@ pub fn attributes(
 {
     let stop = n.stop as usize;
     let opened = n.opened as usize;
-    read_all(t, &page[0..opened], stop, names, ends, out);
+    read_all(t, slots, &page[0..opened], stop, names, ends, out);
 }

@@ -150,7 +150,7 @@ fn has_room(room: usize, names: usize, handles: usize) -> bool
     handles <= room / 3 / names
 }
 
-// Writes what each tag holds for each name. The table of marks is made once, and each tag's attributes are read once.
+// Writes what each tag holds for each name. The marks and the names' slots are made once, and each tag's attributes are read once.
 fn put_names(
     page: &[u8],
     table: &[u32],
@@ -166,13 +166,14 @@ fn put_names(
         ⌝ }
 {
     let t = scan::mark_table();
+    let slots = attributes::slot_table(names, ends);
     let mut at = 0;
     let mut i = 0;
     while i < handles.len() {
         let h = handles[i] as usize;
         let n = table::row_at(table, h);
         let end = at + 3 * ends.len();
-        attributes::attributes(&t, page, n, names, ends, &mut out[at..end]);
+        attributes::attributes(&t, &slots, page, n, names, ends, &mut out[at..end]);
         at = end;
         i += 1;
     }

@@ -1,31 +1,28 @@
--- `attributes::note_all` meets its contract: the attribute was noted in the words of the first j names.
+-- `attributes::note_all` meets its contract: a name to which the slot does not lead is not the attribute's.
 use borrow.Author.Needs.{needs}
-use Prim.Native.Nat.{_-_}
-use native.Mathlib.Omega.{arith}
-use lib.ListN.{length}
-use Rattle.attributes.proofs.Words.{Noting, noting-none, noting-more, noting-all}
+use Rattle.attributes.proofs.Slots.{no-name, one-name, name-inside}
+use Rattle.attributes.proofs.Noted.{notes-none, notes-only}
 use Rattle.attributes.proofs.note_all.Statement.{statement}
 use Rattle.attributes.proofs.note_all.Tie as tie
 
-abbrev Inv-loop : tie.InvT-loop
-Inv-loop page a names ends out₀ from₀ j₀ out from j = Noting page a names ends out₀ j from out
+returns : tie.Need-returns
+returns c =
+    let s = c .before .before .before .before .before .before .before .before in
+    notes-none (s .args .page .now) (s .args .a) _ _ _ (s .pre .1 .0) (no-name _ _ (s .pre .0) _ (c .before .before .slot-of .ensures .0) (c .if1 .taken))
 
-abbrev μ-loop : tie.MeasureT-loop
-μ-loop page a names ends out₀ from₀ j₀ out from j = length ends - j
+note-one-requires : tie.Need-note-one-requires
+note-one-requires c κs =
+    let s = c .before .before .before .before .before .before .before .before .before .before in
+    (s .pre .1 .0, s .pre .1 .1, name-inside _ _ (s .pre .0) _ (c .before .before .before .before .slot-of .ensures .0) (c .before .before .if1 .left) (c .before .if2 .taken))
 
-loop-holds : tie.Need-loop-holds Inv-loop μ-loop
-loop-holds c = let a = c .before .before .before .before .args in noting-none (a .page .now) (a .a) (a .names .now) (a .ends .now) (a .out .now)
-
-loop-again : tie.Need-loop-again Inv-loop μ-loop
-loop-again c = noting-more _ _ _ _ (c .before .before .before .before .before .before .before .loop .inv) (c .before .before .before .before .before .before .loop-test .taken) (c .before .before .before .before .before .before .before .before .before .before .before .before .pre .0) (c .before .before .note .last .0) (c .before .out .given .0) (rw (c .before .before .before .before .part .ensures) at (c .before .before .note .ensures))
-
-returns : tie.Need-returns Inv-loop μ-loop
-returns c = noting-all _ _ _ _ (c .before .loop .inv) (omega arith) (c .before .before .before .before .before .before .pre .0)
+returns-2 : tie.Need-returns-2
+returns-2 c =
+    let s = c .before .before .before .before .before .before .before .before .before .before .before .before .before in
+    notes-only (s .args .page .now) (s .args .a) _ _ _ (s .pre .1 .0) (c .before .before .note-one .ensures) (one-name _ _ (s .pre .0) _ (c .before .before .before .before .before .before .before .slot-of .ensures .0) (c .before .before .before .before .before .if1 .left) (c .before .before .before .before .if2 .taken))
 
 pub note-all-spec : {M : Type 1} → statement M
 note-all-spec =
     tie.close
-    (tie.spec Inv-loop μ-loop loop-holds (λ c. search needs) (λ c. search needs) (λ c κs. search needs)
-    (λ c. search needs) (λ c. search needs) (λ c. search needs) (λ c. search needs) (λ c. search needs)
-    (λ c. search needs) (λ c κs. search needs) (λ c. search needs) (λ c. search needs) loop-again (λ c. search needs)
-    returns)
+    (tie.spec (λ c. search needs) (λ c. search needs) (λ c. search needs) (λ c κs. search needs) (λ c. search needs)
+    returns (λ c. search needs) (λ c. search needs) note-one-requires (λ c. search needs) returns-2
+    (λ c κs. search needs) (λ c. search needs) (λ c. search needs))

@@ -10,18 +10,19 @@ use Rattle.attributes.proofs.read_all.Statement.{statement}
 use Rattle.attributes.proofs.read_all.Tie as tie
 
 abbrev Inv-loop : tie.InvT-loop
-Inv-loop t page start names ends out₀ i₀ out i = Reading (whiteIn t) page start names ends i out
+Inv-loop t slots page start names ends out₀ i₀ out i = Reading (whiteIn t) page start names ends i out
 
 abbrev μ-loop : tie.MeasureT-loop
-μ-loop t page start names ends out₀ i₀ out i = length page - i
+μ-loop t slots page start names ends out₀ i₀ out i = length page - i
 
 loop-holds : tie.Need-loop-holds Inv-loop μ-loop
 loop-holds c =
-    let a = c .before .before .before .before .before .before .before .before .args in
-    reading-none (whiteIn (a .t .now)) (a .page .now) (a .start) (a .names .now) (a .ends .now) (c .before .before .before .before .before .before .before .before .pre .0 .1) (c .before .before .before .before .before .before .before .before .pre .1) (c .before .out .given) (c .before .before .clear .ensures)
+    let s = c .before .before .before .before .before .before .before .before in
+    let a = s .args in
+    reading-none (whiteIn (a .t .now)) (a .page .now) (a .start) (a .names .now) (a .ends .now) (s .pre .0 .1) (s .pre .1 .1) (c .before .out .given) (c .before .before .clear .ensures)
 
 same-length : tie.Need-same-length Inv-loop μ-loop
-same-length c = omega (arith, c .before .before .before .loop .inv .size, c .before .before .before .before .before .before .before .before .before .before .before .before .pre .1)
+same-length c = omega (arith, c .before .before .before .loop .inv .size, c .before .before .before .before .before .before .before .before .before .before .before .before .pre .1 .1)
 
 returns : tie.Need-returns Inv-loop μ-loop
 returns c =
@@ -31,7 +32,8 @@ returns c =
 note-all-requires : tie.Need-note-all-requires Inv-loop μ-loop
 note-all-requires c κs =
     let l = c .before .before .before .before .before .loop in
-    (l .inv .size, turn-placed _ _ (c .before .before .before .before .before .before .before .before .before .before .before .before .before .before .pre .0 .2) (turn _ _ (l .inv .inside) (c .before .before .before .before .next-attribute .ensures) _ (c .before .before .a .given .1)))
+    let s = c .before .before .before .before .before .before .before .before .before .before .before .before .before .before in
+    (s .pre .1 .0, (l .inv .size, turn-placed _ _ (s .pre .0 .2) (turn _ _ (l .inv .inside) (c .before .before .before .before .next-attribute .ensures) _ (c .before .before .a .given .1))))
 
 loop-less : tie.Need-loop-less Inv-loop μ-loop
 loop-less c =
