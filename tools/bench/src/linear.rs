@@ -35,7 +35,7 @@ const CALLS: [(&str, fn(&mut Reader)); 7] = [
 ];
 
 fn line(what: &str, call: fn(&mut Reader), whole: &mut Reader, half: &mut Reader) {
-    let (long, short) = (best(|| call(whole)), best(|| call(half)));
+    let (long, short) = best(|| call(whole), || call(half));
     println!(
         "| {what} | {:.2} | {:.2} | {:.2} |",
         long / 1e3,

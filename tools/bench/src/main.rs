@@ -22,11 +22,8 @@ struct Row {
 }
 
 fn row(what: &'static str, ours: impl FnMut(), tl: impl FnMut()) -> Row {
-    Row {
-        what,
-        ours: best(ours),
-        tl: best(tl),
-    }
+    let (ours, tl) = best(ours, tl);
+    Row { what, ours, tl }
 }
 
 /// Reading a page, and one lookup of each kind.
