@@ -1,9 +1,9 @@
--- How many numbers an answer has.
-use mathlib.Core.Path.{_≡_, refl, ap}
+-- How many entries a buffer and an answer have.
+use mathlib.Core.Path.{_≡_, refl, sym, ap}
 use mathlib.Core.List.{List, _∷_}
 use Prim.Native.Nat.{ℕ, _+_}
 use native.Mathlib.Omega.{arith}
-use lib.ListN.{length}
+use lib.ListN.{length, replicate, length-replicate}
 use Rattle.rules.specs.Refusals.{rangedNumbers, foundNumbers, heldNumbers, askedNumbers}
 use Rattle.rules.specs.declared.Held.{Held}
 use Rattle.rules.specs.declared.Held.the-variants.{Absent, Bare, Value}
@@ -36,3 +36,7 @@ asked (Unasked x) = refl
 -- the values after the refusal's number
 pub after : {r k : ℕ} {values numbers : List ℕ} → (r ∷ values) ≡ numbers → length numbers ≡ k + 1 → k ≡ length values
 after e s = omega (arith, ap length e, s)
+
+-- a buffer of one value; the length is not computed
+pub long : (n a : ℕ) → n ≡ length (replicate n a)
+long n a = sym (length-replicate n a)

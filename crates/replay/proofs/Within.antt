@@ -1,5 +1,5 @@
 -- A number and the byte after it lie in the input, and so does a record.
-use mathlib.Core.Path.{_≡_, refl, sym}
+use mathlib.Core.Path.{_≡_, refl, sym, _∙_}
 use mathlib.Core.Bool.{Bool, true, false, _&&_}
 use mathlib.Core.List.{List}
 use Prim.Native.Nat.{ℕ, _+_, _-_, _*_, _≤_, _<_}
@@ -13,12 +13,14 @@ use Rattle.rules.specs.Places.{expectAt}
 use Rattle.rules.specs.declared.Expected.{Expected}
 use Rattle.rules.specs.declared.Expected.the-variants.{Next, Other}
 use Rattle.rules.proofs.Places.{was-next, here-below}
-use Rattle.replay.specs.Records.{isDigit, valueFrom, isNumber, numberAt, passed, followed, numberBefore, then, recordAt, isReading, lentBy}
+use Rattle.replay.specs.Records.{isDigit, valueFrom, isNumber, numberAt, passed, followed, numberBefore, then, recordAt, isReading, lentBy, Ahead}
 use Rattle.replay.specs.declared.Number.{Number}
 use Rattle.replay.specs.declared.Number.the-variants.{Read, Bad as NoNumber}
 use Rattle.replay.specs.declared.Head.{Head}
 use Rattle.replay.specs.declared.Record.{Record}
 use Rattle.replay.specs.declared.Record.the-variants.{Whole, Bad as NoRecord}
+use Rattle.replay.specs.declared.Step.the-variants.{To}
+use Rattle.replay.specs.declared.Lent.{Lent}
 use Rattle.replay.specs.declared.Lent.the-variants.{Parts, Bad as NoRoom}
 
 module _ (s : List ℕ) (at : ℕ) where
@@ -72,10 +74,10 @@ module _ (s : List ℕ) (h : Head) (start : ℕ) where
           (p, omega arith)
       go false g f = let z : _≡_ {A = ℕ} 0 1 = cc in absurd (omega arith)
 
-  pub record-within : (at : ℕ) → recordAt s at ≡ Whole h start → (at < start) × (start + h .n < length s)
+  pub record-within : (at : ℕ) {r : Record} → r ≡ recordAt s at → r ≡ Whole h start → (at < start) × (start + h .n < length s)
   unfolding recordAt
-  record-within at e =
-      let op = then-whole (numberBefore 32 s at) e in
+  record-within at d e =
+      let op = then-whole (numberBefore 32 s at) (sym d ∙ e) in
       let a = then-whole (numberBefore 32 s (op .place)) (op .rest) in
       let b = then-whole (numberBefore 32 s (a .place)) (a .rest) in
       let c = then-whole (numberBefore 32 s (b .place)) (b .rest) in
@@ -90,9 +92,10 @@ module _ (s : List ℕ) (h : Head) (start : ℕ) where
 
 -- what is lent lies in the page's and the table's buffer
 pub lent-within : (h : Head) (page table bytes words b w : ℕ) → bytes ≤ page → words ≤ table
-    → lentBy h page table (Parts bytes words) ≡ Parts b w → (b ≤ page) × (w ≤ table)
+    → {r : Lent} → r ≡ lentBy h page table (Parts bytes words) → r ≡ Parts b w → (b ≤ page) × (w ≤ table)
 unfolding lentBy
-lent-within h page table bytes words b w k l e = go (isReading h) (leb (h .n * h .b) page) (leb (h .a) table) refl refl e
+lent-within h page table bytes words b w k l d e =
+    go (isReading h) (leb (h .n * h .b) page) (leb (h .a) table) refl refl (sym d ∙ e)
   where
     go : (x y z : Bool) → leb (h .n * h .b) page ≡ y → leb (h .a) table ≡ z
         → pick x (pick (y && z) (Parts (h .n * h .b) (h .a)) NoRoom) (Parts bytes words) ≡ Parts b w → (b ≤ page) × (w ≤ table)
@@ -103,3 +106,8 @@ lent-within h page table bytes words b w k l e = go (isReading h) (leb (h .n * h
     go true true false f g d = let o : _≡_ {A = ℕ} 0 1 = cc in absurd (omega arith)
     go true false z f g d = let o : _≡_ {A = ℕ} 0 1 = cc in absurd (omega arith)
     go false y z f g d = let p : bytes ≡ b = cc in let q : words ≡ w = cc in (omega arith, omega arith)
+
+-- the place after a record, and what is lent from then on
+pub ahead : {at input page table b w : ℕ} (start n : ℕ) → (at < start) × (start + n < input) → (b ≤ page) × (w ≤ table)
+    → Ahead (To (start + n + 1) b w) at input page table
+ahead start n r l = (omega arith, omega arith, l .0, l .1)

@@ -21,3 +21,9 @@ line word numbers = word ++ (fields numbers ++ lineFeed)
 pub record Prints (out word : List ℕ) (answer : Counted) (buffer out₂ : List ℕ) (r : ℕ) (left : List ℕ) : Type 0 where
   pub printed : Writes out 0 (line word (countedNumbers answer ++ buffer)) out₂ r
   pub kept : left ≡ buffer
+
+-- a call that writes two buffers: the line has the places and then the bytes
+pub record PrintsBoth (out word : List ℕ) (answer : Counted) (places texts out₂ : List ℕ) (r : ℕ) (ends left : List ℕ) : Type 0 where
+  pub printed : Writes out 0 (line word (countedNumbers answer ++ (places ++ texts))) out₂ r
+  pub ends-kept : ends ≡ places
+  pub kept : left ≡ texts

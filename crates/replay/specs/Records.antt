@@ -1,4 +1,5 @@
 -- A list of recorded questions: a record is five numbers on a line, some bytes, and a line feed.
+use mathlib.Core.Path.{_≡_}
 use Prim.Native.Nat.{ℕ, zero, suc, _+_, _-_, _*_, _≤_, _<_}
 use mathlib.Core.Bool.{Bool, _&&_}
 use mathlib.Core.List.{List, [], _∷_, _++_}
@@ -12,6 +13,8 @@ use Rattle.rules.specs.declared.Expected.{Expected}
 use Rattle.rules.specs.declared.Expected.the-variants.{Next, Other}
 use Rattle.replay.specs.declared.Number.{Number}
 use Rattle.replay.specs.declared.Number.the-variants.{Read, Bad as NoNumber}
+use Rattle.replay.specs.declared.Place.{Place}
+use Rattle.replay.specs.declared.Place.the-variants.{To as Until, Bad as NoPlace}
 use Rattle.replay.specs.declared.Head.{Head}
 use Rattle.replay.specs.declared.Record.{Record}
 use Rattle.replay.specs.declared.Record.the-variants.{Whole, Bad as NoRecord}
@@ -55,6 +58,17 @@ followed q s NoNumber = NoNumber
 -- the number at the place, with the byte q after it
 unfoldable pub numberBefore : ℕ → List ℕ → ℕ → Number
 numberBefore q s at = followed q s (numberAt s at)
+
+-- from `at` up to a place stand numbers, each with a space after it
+pub data Numbers : List ℕ → ℕ → List ℕ → ℕ → Type 0 where
+  none : {s : List ℕ} {at : ℕ} → Numbers s at [] at
+  more : {s : List ℕ} {at : ℕ} {ns : List ℕ} {place n end : ℕ} → Numbers s at ns place
+      → numberBefore 32 s place ≡ Read n end → Numbers s at (ns ++ (n ∷ [])) end
+
+-- the same, where they were read
+abbrev pub NumbersTo : List ℕ → ℕ → List ℕ → Place → Type 0
+NumbersTo s at ns (Until end) = Numbers s at ns end
+NumbersTo s at ns NoPlace = Unit {0}
 
 -- ---- a record
 

@@ -6,8 +6,14 @@
 //   5 m 0 0   the tag with an id, in the manner m                        6 m B 0   the tags with a class
 //   7 B 0 0   the bytes as a selector                                    8 B 0 0   a query over the page
 //   9 h B 0   a query below h                                            12 i v 0  word i of the table becomes v
-// The list in the file stdin beside src/, and in stdout what is to be printed for it, were recorded from tl 0.7.8 by
-// tools/compare/run --record.
+// Of a list of handles, the first N that the last of the questions 6, 8 and 9 left in its buffer:
+//   10 N B 0  an attribute of each, the bytes its name
+//   11 N B E  the inner texts, and into E entries where each ends
+//   13 N B K  the attributes of each for K names: the bytes are K numbers, each with a space after it, where the names end in
+//             the text that follows
+// The list in the file stdin beside src/, and in stdout what is to be printed for it, were recorded by tools/compare/run
+// --record. Accepted questions to a page have tl 0.7.8's own answers, those to a list of handles one tag after the other. The
+// words of a table are a model's, once tl's nodes agree with it; refusals, and what a buffer holds, follow the rules.
 use rules::Expected;
 ghost use mathlib.Core.Path.{_≡_};
 ghost use mathlib.Core.List.{[], _∷_, _++_};
@@ -19,12 +25,13 @@ ghost use Rattle.rules.specs.Names.{isVoid};
 ghost use Rattle.rules.specs.Scan.{skip};
 ghost use Rattle.rules.specs.Refusals.{rangedNumbers, foundNumbers, askedNumbers};
 ghost use Rattle.rules.specs.Answers.{parseAnswer, parseTable, selectorAnswer, selectorBuffer, rangeAnswer, textAnswer, textBuffer, attributeAnswer, idAnswer, classAnswer, classBuffer, queryAnswer, queryBuffer, queryBelowAnswer, queryBelowBuffer};
+ghost use Rattle.rules.specs.Batch.{attributesAnswer, attributesBuffer, namesAnswer, namesBuffer, textsAnswer, textsBuffer, endsBuffer};
 ghost use Rattle.lines.specs.Decimal.{decimal};
 ghost use Rattle.lines.specs.Lines.{field};
 ghost use Rattle.lines.specs.Writes.{Writes};
 ghost use Rattle.tl.specs.Exports.{mannerOf};
-ghost use Rattle.replay.specs.Records.{isDigit, valueFrom, limit, numberAt, numberBefore, recordAt, repeated, lentBy, pageBy, Ahead};
-ghost use Rattle.replay.specs.Printed.{fields, line, Prints};
+ghost use Rattle.replay.specs.Records.{isDigit, valueFrom, limit, numberAt, numberBefore, recordAt, NumbersTo, repeated, lentBy, pageBy, Ahead};
+ghost use Rattle.replay.specs.Printed.{fields, line, Prints, PrintsBoth};
 ghost use Rattle.replay.specs.declared.Lent.the-variants.{Parts};
 
 // Numbers are below 2^32.
@@ -57,8 +64,8 @@ enum Lent {
     Bad,
 }
 
-// The place after a line that was written, or none for a record that is not one.
-enum Line {
+// The place after what was read or written, or none for a record that is not one.
+enum Place {
     To(usize),
     Bad,
 }
@@ -180,14 +187,33 @@ fn record_at(s: &[u8], at: usize) -> Record
     Record::Bad
 }
 
+// Reads a number for each entry, with a space after it, and answers the place after them.
+fn numbers_at(s: &[u8], at: usize, numbers: &mut [usize]) -> Place
+    ensures { λ r. ⌜ NumbersTo (now (s .entry)) at (now (numbers .exit)) r ⌝ }
+{
+    let mut place = at;
+    let mut i = 0;
+    while i < numbers.len() {
+        let Number::Read(n, next) = number_before(s, place, b' ') else {
+            return Place::Bad;
+        };
+        numbers[i] = n as usize;
+        place = next;
+        i += 1;
+    }
+    Place::To(place)
+}
+
 // Whether the record is of a known kind, with zeros for the numbers that its kind does not use.
 fn is_known(h: Head) -> bool {
     let op = h.op;
     match op {
-        1 | 6 | 9 => h.c == 0,
+        1 | 6 | 9 | 10 => h.c == 0,
         3 | 5 | 7 | 8 => (h.b == 0) & (h.c == 0),
         4 | 12 => (h.c == 0) & (h.n == 0),
         2 => (h.b == 0) & (h.c == 0) & (h.n == 0),
+        11 => h.n == 0,
+        13 => true,
         _ => false,
     }
 }
@@ -389,6 +415,80 @@ fn ask_below(
     put_list(out, b"below", number, count, words)
 }
 
+// ---- the questions about a list of handles
+
+fn ask_attributes(
+    page: &[u8],
+    table: &[u32],
+    handles: &[u32],
+    name: &[u8],
+    words: &mut [u32],
+    out: &mut [u8],
+) -> usize
+    ensures { λ r. ⌜
+        (let p = now (page .entry) in
+        let t = now (table .entry) in
+        let hs = now (handles .entry) in
+        let b = now (words .entry) in
+        Prints (now (out .entry)) (bytes "attributes") (attributesAnswer isWhite p t hs (length b)) (attributesBuffer isWhite p t hs (now (name .entry)) b) (now (out .exit)) r (now (words .exit)))
+        ⌝ }
+{
+    let mut count = 0;
+    let number = tl::tl_attributes(page, table, handles, name, words, &mut count);
+    put_list(out, b"attributes", number, count, words)
+}
+
+fn ask_names(
+    page: &[u8],
+    table: &[u32],
+    handles: &[u32],
+    names: &[u8],
+    ends: &[usize],
+    words: &mut [u32],
+    out: &mut [u8],
+) -> usize
+    ensures { λ r. ⌜
+        (let p = now (page .entry) in
+        let t = now (table .entry) in
+        let hs = now (handles .entry) in
+        let es = now (ends .entry) in
+        let b = now (words .entry) in
+        Prints (now (out .entry)) (bytes "names") (namesAnswer isWhite p t hs es (length b)) (namesBuffer isWhite p t hs (now (names .entry)) es b) (now (out .exit)) r (now (words .exit)))
+        ⌝ }
+{
+    let mut count = 0;
+    let number = tl::tl_attributes_for_names(page, table, handles, names, ends, words, &mut count);
+    put_list(out, b"names", number, count, words)
+}
+
+fn ask_texts(
+    page: &[u8],
+    table: &[u32],
+    handles: &[u32],
+    ends: &mut [usize],
+    text: &mut [u8],
+    out: &mut [u8],
+) -> usize
+    ensures { λ r. ⌜
+        (let p = now (page .entry) in
+        let t = now (table .entry) in
+        let hs = now (handles .entry) in
+        let e = now (ends .entry) in
+        let b = now (text .entry) in
+        let answer = textsAnswer p t hs (length e) (length b) in
+        PrintsBoth (now (out .entry)) (bytes "texts") answer (endsBuffer p t hs e b) (textsBuffer p t hs e b) (now (out .exit)) r (now (ends .exit)) (now (text .exit)))
+        ⌝ }
+{
+    let mut count = 0;
+    let number = tl::tl_inner_texts(page, table, handles, ends, text, &mut count);
+    let counted = put_counted(out, b"texts", number, count);
+    let placed = put_sizes(out, counted, ends);
+    let end = put_bytes(out, placed, text);
+    lines::put_byte(out, end, b'\n')
+}
+
+// ---- a word of the table
+
 // Damages the table: sets a word of it, if it has that many.
 fn damage(table: &mut [u32], i: usize, v: u32)
     ensures { λ _. ⌜ now (table .exit) ≡ set (now (table .entry)) i v ⌝ }
@@ -445,30 +545,30 @@ fn lend(h: Head, body: &[u8], page: &mut [u8], room: usize, bytes: usize, words:
     Lent::Parts(size, h.a as usize)
 }
 
-fn answer_parse(page: &[u8], table: &mut [u32], out: &mut [u8]) -> Line {
+fn answer_parse(page: &[u8], table: &mut [u32], out: &mut [u8]) -> Place {
     closing::fill(table, 9);
-    Line::To(ask_parse(page, table, out))
+    Place::To(ask_parse(page, table, out))
 }
 
-fn answer_text(h: Head, page: &[u8], table: &[u32], text: &mut [u8], out: &mut [u8]) -> Line {
+fn answer_text(h: Head, page: &[u8], table: &[u32], text: &mut [u8], out: &mut [u8]) -> Place {
     let size = h.b as usize;
     if text.len() < size {
-        return Line::Bad;
+        return Place::Bad;
     }
     let part = &mut text[..size];
     // a tab is the byte 9
     repeat(part, b"\t", size);
-    Line::To(ask_text(page, table, h.a as usize, part, out))
+    Place::To(ask_text(page, table, h.a as usize, part, out))
 }
 
-fn answer_selector(h: Head, body: &[u8], pieces: &mut [u32], out: &mut [u8]) -> Line {
+fn answer_selector(h: Head, body: &[u8], pieces: &mut [u32], out: &mut [u8]) -> Place {
     let size = h.a as usize;
     if pieces.len() < size {
-        return Line::Bad;
+        return Place::Bad;
     }
     let part = &mut pieces[..size];
     closing::fill(part, 9);
-    Line::To(ask_selector(body, part, out))
+    Place::To(ask_selector(body, part, out))
 }
 
 // The questions for a list of handles, which stays in the buffer for the records after it.
@@ -479,18 +579,106 @@ fn answer_list(
     table: &[u32],
     words: &mut [u32],
     out: &mut [u8],
-) -> Line {
+) -> Place {
     let op = h.op;
     let size = if op == 8 { h.a as usize } else { h.b as usize };
     if words.len() < size {
-        return Line::Bad;
+        return Place::Bad;
     }
     let part = &mut words[..size];
     closing::fill(part, 9);
     match op {
-        6 => Line::To(ask_class(page, table, h.a, body, part, out)),
-        8 => Line::To(ask_query(page, table, body, part, out)),
-        _ => Line::To(ask_below(page, table, h.a as usize, body, part, out)),
+        6 => Place::To(ask_class(page, table, h.a, body, part, out)),
+        8 => Place::To(ask_query(page, table, body, part, out)),
+        _ => Place::To(ask_below(page, table, h.a as usize, body, part, out)),
+    }
+}
+
+// The questions for the attributes of a list of handles.
+fn answer_held(
+    h: Head,
+    body: &[u8],
+    page: &[u8],
+    table: &[u32],
+    words: &[u32],
+    pieces: &mut [u32],
+    out: &mut [u8],
+) -> Place {
+    let n = h.a as usize;
+    let size = h.b as usize;
+    if words.len() < n {
+        return Place::Bad;
+    }
+    if pieces.len() < size {
+        return Place::Bad;
+    }
+    let handles = &words[..n];
+    let part = &mut pieces[..size];
+    closing::fill(part, 9);
+    if h.op == 10 {
+        return Place::To(ask_attributes(page, table, handles, body, part, out));
+    }
+    answer_names(h, body, page, table, handles, part, out)
+}
+
+// For several names, whose ends come first.
+fn answer_names(
+    h: Head,
+    body: &[u8],
+    page: &[u8],
+    table: &[u32],
+    handles: &[u32],
+    words: &mut [u32],
+    out: &mut [u8],
+) -> Place {
+    let k = h.c as usize;
+    let mut room = [0; 256];
+    if room.len() < k {
+        return Place::Bad;
+    }
+    let ends = &mut room[..k];
+    let Place::To(start) = numbers_at(body, 0, ends) else {
+        return Place::Bad;
+    };
+    let names = scan::part(body, start, body.len());
+    Place::To(ask_names(page, table, handles, names, ends, words, out))
+}
+
+// The question for the texts of a list of handles.
+fn answer_texts(
+    h: Head,
+    page: &[u8],
+    table: &[u32],
+    words: &[u32],
+    text: &mut [u8],
+    out: &mut [u8],
+) -> Place {
+    let n = h.a as usize;
+    let size = h.b as usize;
+    let places = h.c as usize;
+    if words.len() < n {
+        return Place::Bad;
+    }
+    if text.len() < size {
+        return Place::Bad;
+    }
+    let mut room = [9; 256];
+    if room.len() < places {
+        return Place::Bad;
+    }
+    let part = &mut text[..size];
+    repeat(part, b"\t", size);
+    Place::To(ask_texts(page, table, &words[..n], &mut room[..places], part, out))
+}
+
+// The questions that are answered in numbers alone.
+fn answer_numbers(h: Head, body: &[u8], page: &[u8], table: &[u32], out: &mut [u8]) -> Place {
+    let op = h.op;
+    let a = h.a as usize;
+    match op {
+        2 => Place::To(ask_range(page, table, a, out)),
+        3 => Place::To(ask_attribute(page, table, a, body, out)),
+        _ => Place::To(ask_id(page, table, h.a, body, out)),
     }
 }
 
@@ -504,20 +692,19 @@ fn answer(
     words: &mut [u32],
     pieces: &mut [u32],
     out: &mut [u8],
-) -> Line {
+) -> Place {
     if !is_known(h) {
-        return Line::Bad;
+        return Place::Bad;
     }
     let op = h.op;
-    let a = h.a as usize;
     match op {
         1 => answer_parse(page, table, out),
-        2 => Line::To(ask_range(page, table, a, out)),
-        3 => Line::To(ask_attribute(page, table, a, body, out)),
+        2 | 3 | 5 => answer_numbers(h, body, page, table, out),
         4 => answer_text(h, page, table, text, out),
-        5 => Line::To(ask_id(page, table, h.a, body, out)),
         7 => answer_selector(h, body, pieces, out),
-        12 => Line::To(set_word(table, h.a, h.b, out)),
+        10 | 13 => answer_held(h, body, page, table, words, pieces, out),
+        11 => answer_texts(h, page, table, words, text, out),
+        12 => Place::To(set_word(table, h.a, h.b, out)),
         _ => answer_list(h, body, page, table, words, out),
     }
 }
@@ -525,8 +712,8 @@ fn answer(
 // ---- the program
 
 // Writes a line, and answers whether it was one.
-fn write_line(out: &[u8], line: Line) -> bool {
-    let Line::To(end) = line else {
+fn write_line(out: &[u8], line: Place) -> bool {
+    let Place::To(end) = line else {
         return false;
     };
     if out.len() < end {
@@ -596,24 +783,38 @@ fn replay(
     Ended::Answered(count)
 }
 
-// Room for the input. Its contract gives only the length: the proof of `main` never looks at so many zeros.
+// Room for the input. Its contract gives only the length, as those of the other buffers do: the proof of `main` never looks at so
+// many zeros.
 fn input_buffer() -> [u8; 1048576]
     ensures { λ r. ⌜ 1048576 ≡ length r ⌝ }
 {
     [0; 1048576]
 }
 
-// A page of 65,537 bytes is too long for the library. The table has a header of 8 words and 2,047 rows of 8.
-// The longest line is that of a text: 4 bytes for its word, 2 for a refusal's number, 6 for the count, 4 for each byte,
-// and a line feed.
+// Room for a page, or for the texts of one. A page of 65,537 bytes is too long for the library.
+fn page_buffer() -> [u8; 65537]
+    ensures { λ r. ⌜ 65537 ≡ length r ⌝ }
+{
+    [0; 65537]
+}
+
+// Room for the longest line, that of texts: 5 bytes for its word, 2 for a refusal's number, 4 for the count, 6 for each of 256
+// places, 4 for each byte, and a line feed.
+fn line_buffer() -> [u8; 263696]
+    ensures { λ r. ⌜ 263696 ≡ length r ⌝ }
+{
+    [0; 263696]
+}
+
+// The table has a header of 8 words and 2,047 rows of 8.
 fn main() {
     let mut input = input_buffer();
-    let mut page = [0u8; 65537];
+    let mut page = page_buffer();
     let mut table = [0u32; 16384];
-    let mut text = [0u8; 65536];
+    let mut text = page_buffer();
     let mut words = [0u32; 4096];
     let mut pieces = [0u32; 4096];
-    let mut out = [0u8; 262157];
+    let mut out = line_buffer();
     let n = io::read_full(0, &mut input);
     let ended = replay(
         &input[..n],

@@ -1,7 +1,8 @@
 //! What is asked of a page. Of a short one every tag is asked, and for every attribute name of the page; of a long one some
 //! tags at random, since each of the library's calls looks over the whole table and all questions to all tags would grow
 //! with the square of the page.
-use crate::model::{class_words, Asked, PAPER};
+use crate::lists::{self, List, Source};
+use crate::model::{class_words, Asked, Names, PAPER};
 use crate::question::Question;
 use crate::random::Random;
 use crate::selectors::{self, Words};
@@ -22,6 +23,7 @@ pub struct Asks {
     pub classes: Vec<Vec<u8>>,
     pub selectors: Vec<Vec<u8>>,
     pub below: Vec<(usize, Vec<u8>)>,
+    pub lists: Vec<List>,
 }
 
 impl Asks {
@@ -34,12 +36,24 @@ impl Asks {
             true => few.clone(),
             false => random.some_of(&few, 1),
         };
+        let attributes = lookups(asked, &tags, &words, random);
+        let ids = sought(&words.ids, &[b"", b"i", b"no-such-id"], random);
+        let classes = sought(&words.classes, &[b"", b"c", b"no-such-class"], random);
+        let below = below(&few, &selectors, random);
+        let source = Source {
+            asked,
+            tags: &tags,
+            words: &words,
+            classes: &classes,
+            selectors: &selectors,
+        };
         Asks {
+            lists: source.lists(random),
             openings,
-            attributes: lookups(asked, &tags, &words, random),
-            ids: sought(&words.ids, &[b"", b"i", b"no-such-id"], random),
-            classes: sought(&words.classes, &[b"", b"c", b"no-such-class"], random),
-            below: below(&few, &selectors, random),
+            attributes,
+            ids,
+            classes,
+            below,
             selectors,
             tags: few,
         }
@@ -73,10 +87,32 @@ impl Asks {
                     .map(|tag| (tag, selector.clone()))
                     .collect();
             }
+            Question::Attributes(handles, name) => {
+                asks.lists = lists_again(handles, asked, name, &Names::default());
+            }
+            Question::AttributesForNames(handles, names) => {
+                asks.lists = lists_again(handles, asked, b"", names);
+            }
+            Question::Texts(handles) => {
+                asks.lists = lists_again(handles, asked, b"", &Names::default());
+            }
             _ => {}
         }
         asks
     }
+}
+
+/// The list of all tags, and the same list, whether these are tags now or not.
+fn lists_again(handles: &[u32], asked: &Asked, name: &[u8], names: &Names) -> Vec<List> {
+    let all = tags(asked).into_iter().take(lists::most(asked));
+    let all = all.map(|tag| tag as u32).collect();
+    [all, handles.to_vec()]
+        .map(|handles| List {
+            handles,
+            name: name.to_vec(),
+            names: names.clone(),
+        })
+        .into()
 }
 
 fn tags(asked: &Asked) -> Vec<usize> {

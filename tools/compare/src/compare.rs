@@ -3,6 +3,8 @@
 //! The library is held to the paper, as the model has it. tl is held to the model too, answering in tl's way (`model::TL`),
 //! which is the paper's but for the departures of docs/DIFFERENCES.md. So library and tl agree wherever no departure is
 //! counted, and where one is counted both are what the list says.
+mod lists;
+
 use crate::asks::Asks;
 use crate::findings::{Departure, Difference, Findings};
 use crate::model::{
@@ -227,6 +229,9 @@ impl Run<'_, '_> {
         }
         for (tag, selector) in &asks.below {
             self.query_below(*tag, selector);
+        }
+        for list in &asks.lists {
+            self.list(list);
         }
         self.no_tag();
     }

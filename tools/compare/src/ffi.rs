@@ -100,6 +100,50 @@ mod raw {
             out_len: usize,
             count: *mut usize,
         ) -> u32;
+
+        pub fn tl_attributes(
+            page: *const u8,
+            page_len: usize,
+            table: *const u32,
+            table_len: usize,
+            handles: *const u32,
+            handles_len: usize,
+            name: *const u8,
+            name_len: usize,
+            out: *mut u32,
+            out_len: usize,
+            count: *mut usize,
+        ) -> u32;
+
+        pub fn tl_attributes_for_names(
+            page: *const u8,
+            page_len: usize,
+            table: *const u32,
+            table_len: usize,
+            handles: *const u32,
+            handles_len: usize,
+            names: *const u8,
+            names_len: usize,
+            ends: *const usize,
+            ends_len: usize,
+            out: *mut u32,
+            out_len: usize,
+            count: *mut usize,
+        ) -> u32;
+
+        pub fn tl_inner_texts(
+            page: *const u8,
+            page_len: usize,
+            table: *const u32,
+            table_len: usize,
+            handles: *const u32,
+            handles_len: usize,
+            ends: *mut usize,
+            ends_len: usize,
+            out: *mut u8,
+            out_len: usize,
+            count: *mut usize,
+        ) -> u32;
     }
 }
 
@@ -256,6 +300,81 @@ pub fn query_selector_below(
             handle,
             selector.as_ptr(),
             selector.len(),
+            out.as_mut_ptr(),
+            out.len(),
+            count,
+        )
+    })
+}
+
+pub fn attributes(
+    page: &[u8],
+    table: &[u32],
+    handles: &[u32],
+    name: &[u8],
+    out: &mut [u32],
+) -> Said<1> {
+    call(|[count]| unsafe {
+        raw::tl_attributes(
+            page.as_ptr(),
+            page.len(),
+            table.as_ptr(),
+            table.len(),
+            handles.as_ptr(),
+            handles.len(),
+            name.as_ptr(),
+            name.len(),
+            out.as_mut_ptr(),
+            out.len(),
+            count,
+        )
+    })
+}
+
+pub fn attributes_for_names(
+    page: &[u8],
+    table: &[u32],
+    handles: &[u32],
+    names: &[u8],
+    ends: &[usize],
+    out: &mut [u32],
+) -> Said<1> {
+    call(|[count]| unsafe {
+        raw::tl_attributes_for_names(
+            page.as_ptr(),
+            page.len(),
+            table.as_ptr(),
+            table.len(),
+            handles.as_ptr(),
+            handles.len(),
+            names.as_ptr(),
+            names.len(),
+            ends.as_ptr(),
+            ends.len(),
+            out.as_mut_ptr(),
+            out.len(),
+            count,
+        )
+    })
+}
+
+pub fn inner_texts(
+    page: &[u8],
+    table: &[u32],
+    handles: &[u32],
+    ends: &mut [usize],
+    out: &mut [u8],
+) -> Said<1> {
+    call(|[count]| unsafe {
+        raw::tl_inner_texts(
+            page.as_ptr(),
+            page.len(),
+            table.as_ptr(),
+            table.len(),
+            handles.as_ptr(),
+            handles.len(),
+            ends.as_mut_ptr(),
+            ends.len(),
             out.as_mut_ptr(),
             out.len(),
             count,

@@ -49,6 +49,9 @@ pub struct Findings {
     pub pages: u64,
     pub selectors: u64,
     pub answers: u64,
+    /// answers to a list of handles, and the handles of these lists
+    pub lists: u64,
+    pub listed: u64,
     /// pages that are not UTF-8
     pub not_utf8: u64,
     /// tags in which a name other than `id` and `class` is repeated

@@ -8,6 +8,7 @@ mod execution;
 mod ffi;
 mod findings;
 mod guard;
+mod lists;
 mod model;
 mod ours;
 mod pages;

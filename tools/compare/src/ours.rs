@@ -2,7 +2,7 @@
 //! mark before, and what the interface says of buffers is looked at each time: an accepted call fills the first entries and
 //! leaves the rest as it was, a refusal leaves zeros.
 use crate::ffi::{self, Said};
-use crate::model::{Held, Manner, Piece};
+use crate::model::{Held, Manner, Names, Piece, Texts};
 
 /// Why there is no answer.
 #[derive(Clone, Debug, PartialEq, Eq)]
@@ -102,12 +102,7 @@ impl Ours<'_> {
     }
 
     pub fn attribute(&self, handle: usize, name: &[u8]) -> Answer<Held> {
-        match plain(ffi::attribute(self.page, self.table, handle, name))? {
-            [0, 0, 0] => Ok(Held::Absent),
-            [1, 0, 0] => Ok(Held::Bare),
-            [2, start, end] => Ok(Held::Value((start, end))),
-            _ => Err(Refusal::Broken("an attribute's numbers mean nothing")),
-        }
+        held(plain(ffi::attribute(self.page, self.table, handle, name))?)
     }
 
     pub fn by_id(&self, manner: Manner, id: &[u8]) -> Answer<Option<usize>> {
@@ -137,6 +132,69 @@ impl Ours<'_> {
         let said = ffi::query_selector_below(self.page, self.table, handle, selector, &mut out);
         filled(said, out, 1, MARK).map(handles)
     }
+
+    pub fn attributes(&self, list: &[u32], name: &[u8], room: usize) -> Answer<Vec<Held>> {
+        let mut out = vec![MARK; room];
+        let said = ffi::attributes(self.page, self.table, list, name, &mut out);
+        listed(filled(of_all(said, list)?, out, 3, MARK)?)
+    }
+
+    pub fn attributes_for_names(
+        &self,
+        list: &[u32],
+        names: &Names,
+        room: usize,
+    ) -> Answer<Vec<Held>> {
+        let mut out = vec![MARK; room];
+        let Names { text, ends } = names;
+        let said = ffi::attributes_for_names(self.page, self.table, list, text, ends, &mut out);
+        listed(filled(of_all(said, list)?, out, 3 * ends.len(), MARK)?)
+    }
+
+    /// The texts below each tag of a list, into so many places and so many bytes.
+    pub fn texts(&self, list: &[u32], places: usize, room: usize) -> Answer<Texts> {
+        let mut ends = vec![MARK as usize; places];
+        let mut bytes = vec![MARK as u8; room];
+        let said = ffi::inner_texts(self.page, self.table, list, &mut ends, &mut bytes);
+        let said = of_all(said, list)?;
+        if said.refusal != 0 && bytes.iter().any(|&byte| byte != 0) {
+            return Err(Refusal::Broken("a refusal leaves bytes of texts"));
+        }
+        let ends = filled(said, ends, 1, MARK as usize)?;
+        let used = ends.last().copied().unwrap_or(0);
+        if used > room || bytes[used..].iter().any(|&byte| byte != MARK as u8) {
+            return Err(Refusal::Broken("bytes after the last text have changed"));
+        }
+        bytes.truncate(used);
+        Ok(Texts { ends, bytes })
+    }
+}
+
+/// What is counted of an accepted list are its handles, all of them.
+fn of_all(said: Said<1>, list: &[u32]) -> Answer<Said<1>> {
+    match said.refusal {
+        0 if said.numbers != [list.len()] => {
+            Err(Refusal::Broken("the count is not that of the handles"))
+        }
+        _ => Ok(said),
+    }
+}
+
+fn held(numbers: [usize; 3]) -> Answer<Held> {
+    match numbers {
+        [0, 0, 0] => Ok(Held::Absent),
+        [1, 0, 0] => Ok(Held::Bare),
+        [2, start, end] => Ok(Held::Value((start, end))),
+        _ => Err(Refusal::Broken("an attribute's numbers mean nothing")),
+    }
+}
+
+/// Three words for each answer.
+fn listed(words: Vec<u32>) -> Answer<Vec<Held>> {
+    let three = words.chunks_exact(3);
+    three
+        .map(|words| held([words[0], words[1], words[2]].map(|word| word as usize)))
+        .collect()
 }
 
 /// Reads a selector into so many words.

@@ -466,6 +466,26 @@ pub fn nested(depth: usize, random: &mut Random) -> Vec<u8> {
     page
 }
 
+/// A page with a sound table of so many rows, which may be more than a reading of any page has: tags that all reach to the
+/// last row, and texts among them.
+pub fn with_rows(rows: usize, random: &mut Random) -> (Vec<u8>, Vec<u32>) {
+    let page = [b"<p k=v class=c>", &of_markup(random)[..]].concat();
+    let length = page.len() as u32;
+    let mut table = vec![rows as u32, 0, length, 8, 8, 0, 0, 0];
+    let mut parent = 0;
+    for handle in 0..rows as u32 {
+        if random.once_in(4) {
+            table.extend([1, 0, length, 1, 2, 15, parent, rows as u32 - 1]);
+            parent = handle + 1;
+        } else {
+            let start = random.below(page.len() + 1) as u32;
+            let end = length.min(start + random.below(3) as u32);
+            table.extend([2, start, end, 0, 0, 0, parent, handle]);
+        }
+    }
+    (page, table)
+}
+
 /// A table that is perhaps still sound, but as no reading makes it.
 pub fn change_table(table: &mut Vec<u32>, page_len: usize, random: &mut Random) {
     match random.below(6) {

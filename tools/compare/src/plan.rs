@@ -25,11 +25,12 @@ pub enum Kind {
     Lengths,
     Nested,
     Tables,
+    ManyRows,
     ShortSelectors,
     Selectors,
 }
 
-pub const KINDS: [(Kind, &str); 16] = [
+pub const KINDS: [(Kind, &str); 17] = [
     (Kind::Checked, "the paper's pages"),
     (Kind::CheckedSelectors, "the paper's selectors"),
     (Kind::ShortPages, "every short page"),
@@ -44,6 +45,7 @@ pub const KINDS: [(Kind, &str); 16] = [
     (Kind::Lengths, "pages around the limit"),
     (Kind::Nested, "pages nested deep"),
     (Kind::Tables, "changed tables"),
+    (Kind::ManyRows, "tables of many rows"),
     (Kind::ShortSelectors, "every short selector"),
     (Kind::Selectors, "random selectors"),
 ];
@@ -101,6 +103,7 @@ fn size(kind: Kind, pages: u64) -> (u64, u64) {
         Kind::Lengths => (rest / 5_000, 4),
         Kind::Nested => (rest / 1_000, 50),
         Kind::Tables => (rest * 10 / 100, 2_000),
+        Kind::ManyRows => (rest / 30_000, 1),
         Kind::ShortSelectors => (
             all_up_to(selectors::ALPHABET.len(), pages * 30 / 100),
             20_000,
@@ -174,6 +177,16 @@ fn input(kind: Kind, number: u64, random: &mut Random) -> Input {
             let page = pages::of_markup(random);
             let mut table = model::words_of(page.len(), &model::read(&page));
             pages::change_table(&mut table, page.len(), random);
+            Input::Table(page, table)
+        }
+        Kind::ManyRows => {
+            // around the most rows that a page has, those of a short page to the calls on a list, and more
+            let rows = match number % 4 {
+                0 => 43_691 - 2 + random.below(5),
+                1 | 2 => 4_096 - 2 + random.below(5),
+                _ => 40_000 + random.below(20_000),
+            };
+            let (page, table) = pages::with_rows(rows, random);
             Input::Table(page, table)
         }
         Kind::ShortSelectors => {

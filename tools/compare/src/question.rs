@@ -1,5 +1,5 @@
 //! The questions that are put to all sides.
-use crate::model::Manner;
+use crate::model::{Manner, Names};
 use std::fmt;
 
 /// A question, with the tag and the word that it is about.
@@ -18,6 +18,10 @@ pub enum Question {
     Query(Vec<u8>),
     Below(usize, Vec<u8>),
     NoTag(usize),
+    /// of a list of handles
+    Attributes(Vec<u32>, Vec<u8>),
+    AttributesForNames(Vec<u32>, Names),
+    Texts(Vec<u32>),
     Panic,
 }
 
@@ -27,14 +31,16 @@ impl Question {
         std::mem::discriminant(self) == std::mem::discriminant(other)
     }
 
-    /// The name, id, class or selector that it is about.
+    /// The name, id, class or selector that it is about, or the text of several names.
     pub fn word(&self) -> Option<&[u8]> {
         match self {
             Question::Attribute(_, word)
             | Question::Id(_, word)
             | Question::Class(_, word)
             | Question::Query(word)
-            | Question::Below(_, word) => Some(word),
+            | Question::Below(_, word)
+            | Question::Attributes(_, word) => Some(word),
+            Question::AttributesForNames(_, names) => Some(&names.text),
             _ => None,
         }
     }
@@ -48,6 +54,11 @@ impl Question {
             Question::Class(manner, _) => Question::Class(*manner, word),
             Question::Query(_) => Question::Query(word),
             Question::Below(tag, _) => Question::Below(*tag, word),
+            Question::Attributes(list, _) => Question::Attributes(list.clone(), word),
+            Question::AttributesForNames(list, names) => {
+                let ends = names.ends.clone();
+                Question::AttributesForNames(list.clone(), Names { text: word, ends })
+            }
             other => other.clone(),
         }
     }
@@ -70,6 +81,18 @@ impl fmt::Display for Question {
             Question::Query(selector) => write!(f, "query `{}`", text(selector)),
             Question::Below(h, selector) => write!(f, "query `{}` below {h}", text(selector)),
             Question::NoTag(h) => write!(f, "calls on {h}, which is no tag"),
+            Question::Attributes(list, name) => {
+                write!(f, "attribute `{}` of the list {list:?}", text(name))
+            }
+            Question::AttributesForNames(list, names) => {
+                let ends = &names.ends;
+                let names = text(&names.text);
+                write!(
+                    f,
+                    "attributes `{names}`, ends {ends:?}, of the list {list:?}"
+                )
+            }
+            Question::Texts(list) => write!(f, "inner texts of the list {list:?}"),
             Question::Panic => write!(f, "a panic"),
         }
     }

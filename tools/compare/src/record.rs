@@ -1,8 +1,11 @@
 //! Records questions with tl's answers for the program `replay`: what it is asked (`stdin`) and what it must print (`stdout`).
 //! crates/replay/src/main.rt has the form of both.
 //!
-//! Each answer to an accepted question about a page is tl's. tl keeps no table, so the words of one are the model's, once tl's
-//! nodes and the model's are the same. Refusals, and what a buffer holds after a call, follow the paper.
+//! Each answer to an accepted question about a page is tl's, of a list of handles tl's for one tag after the other. tl keeps no
+//! table, so the words of one are the model's, once tl's nodes and the model's are the same. Refusals, and what a buffer holds
+//! after a call, follow the paper.
+mod lists;
+
 use crate::asks::Asks;
 use crate::execution;
 use crate::model::{self, Asked, Held, Kind, Manner, Piece, PAGE_LIMIT, SELECTOR_LIMIT};
@@ -19,14 +22,17 @@ use std::path::Path;
 const MARK: usize = 9;
 /// The most rows that its table has room for.
 const ROWS: usize = 2_047;
+/// The handles that its buffer for a list has room for.
+const HANDLES: usize = 4_096;
 /// The most questions of one kind that are recorded of a random page.
 const FEW: usize = 5;
 
-#[derive(Default)]
 struct Recording {
     asked: Vec<u8>,
     printed: String,
     records: usize,
+    /// what stands in the buffer for lists of handles
+    handles: Vec<u32>,
 }
 
 type Answer = Result<Vec<usize>, usize>;
@@ -49,20 +55,19 @@ impl Recording {
 
     /// A question that fills a buffer of `room` entries, `each` for one of what is counted.
     fn list(&mut self, ask: ([usize; 4], &[u8], &str), room: usize, each: usize, answer: &Answer) {
+        let (numbers, bytes, word) = ask;
         let said = match answer {
-            Ok(found) if found.len() <= room => {
-                let mut said = vec![0, found.len() / each];
-                said.extend(found);
-                said.resize(2 + room, MARK);
-                said
-            }
-            Ok(_) => refused(7, room),
+            Ok(found) => filled(found.len() / each, &[(room, found)]),
             Err(number) => refused(*number, room),
         };
-        self.record(ask.0, ask.1, ask.2, &said);
+        if let 6 | 8 | 9 = numbers[0] {
+            let handles = said[2..].iter().map(|&handle| handle as u32);
+            self.handles.splice(..room, handles);
+        }
+        self.record(numbers, bytes, word, &said);
     }
 
-    /// The same with a buffer that is exactly full, with one that is one short, and with one to spare.
+    /// The same with a buffer that is one short, with one to spare, and with one that is exactly full.
     fn rooms(
         &mut self,
         ask: impl Fn(usize) -> [usize; 4],
@@ -72,9 +77,7 @@ impl Recording {
         answer: &Answer,
     ) {
         let size = answer.as_ref().map_or(0, Vec::len);
-        let rooms = [size, size + 1, size.saturating_sub(1)];
-        let some = if size == 0 { 2 } else { 3 };
-        for &room in &rooms[..some] {
+        for room in size.checked_sub(1).into_iter().chain([size + 1, size]) {
             self.list((ask(room), bytes, word), room, each, answer);
         }
     }
@@ -103,6 +106,20 @@ impl Recording {
         };
         self.rooms(|room| [7, room, 0, 0], selector, "selector", 6, &answer);
     }
+}
+
+/// What an accepted call says that fills buffers, each of so many entries; it is refused if one of them has too few.
+fn filled(count: usize, buffers: &[(usize, &[usize])]) -> Vec<usize> {
+    if buffers.iter().any(|(room, found)| *room < found.len()) {
+        return refused(7, buffers.iter().map(|(room, _)| room).sum());
+    }
+    let mut said = vec![0, count];
+    for (room, found) in buffers {
+        let end = said.len() + room;
+        said.extend(*found);
+        said.resize(end, MARK);
+    }
+    said
 }
 
 fn refused(number: usize, room: usize) -> Vec<usize> {
@@ -170,23 +187,29 @@ fn questions(to: &mut Recording, page: &[u8], random: &mut Random) {
             .range(tag)
             .map_or([0; 3], |(first, last)| [last + 1 - first, first, last]);
         to.record([2, tag, 0, 0], b"", "range", &[&[0], &range[..]].concat());
-        let text = tl
-            .text_parts(tag)
-            .concat()
-            .iter()
-            .map(|&byte| byte as usize)
-            .collect();
-        to.rooms(|room| [4, tag, room, 0], b"", "text", 1, &Ok(text));
+        let text = Ok(numbers_of(&tl.text_parts(tag).concat()));
+        to.rooms(|room| [4, tag, room, 0], b"", "text", 1, &text);
     }
     for (tag, name) in asks.attributes.iter().take(3 * FEW) {
-        let held = match tl.attribute(*tag, name) {
-            Held::Absent => [0, 0, 0, 0],
-            Held::Bare => [0, 1, 0, 0],
-            Held::Value((start, end)) => [0, 2, start, end],
-        };
-        to.record([3, *tag, 0, 0], name, "attribute", &held);
+        let held = three_of(tl.attribute(*tag, name));
+        let said = [&[0], &held[..]].concat();
+        to.record([3, *tag, 0, 0], name, "attribute", &said);
     }
     lookups(to, &tl, &asks);
+    lists::questions(to, page, &tl, &asks, random);
+}
+
+fn numbers_of(bytes: &[u8]) -> Vec<usize> {
+    bytes.iter().map(|&byte| byte as usize).collect()
+}
+
+/// What a tag holds, in numbers.
+fn three_of(held: Held) -> [usize; 3] {
+    match held {
+        Held::Absent => [0, 0, 0],
+        Held::Bare => [1, 0, 0],
+        Held::Value((start, end)) => [2, start, end],
+    }
 }
 
 fn lookups(to: &mut Recording, tl: &TlPage, asks: &Asks) {
@@ -228,6 +251,7 @@ fn all_refused(to: &mut Recording, number: usize) {
     to.list(([6, 1, 2, 0], b"k", "class"), 2, 1, &Err(number));
     to.list(([8, 2, 0, 0], b"a,", "query"), 2, 1, &Err(number));
     to.list(([9, 0, 2, 0], b"a,", "below"), 2, 1, &Err(number));
+    lists::refused(to, number);
 }
 
 /// Zero length, the longest page and selector and one byte more, tables of few words.
@@ -317,7 +341,12 @@ fn random_pages(to: &mut Recording, seed: u64) {
 
 /// Writes the two files into a folder.
 pub fn record(folder: &Path, seed: u64) -> io::Result<()> {
-    let mut to = Recording::default();
+    let mut to = Recording {
+        asked: Vec::new(),
+        printed: String::new(),
+        records: 0,
+        handles: vec![0; HANDLES],
+    };
     for page in pages::CHECKED {
         if is_plain(page.as_bytes()) {
             questions(

@@ -19,6 +19,8 @@ struct Counts {
 #[derive(Default)]
 pub struct Report {
     counts: [Counts; KINDS.len()],
+    lists: u64,
+    listed: u64,
     not_utf8: u64,
     repeating_tags: u64,
     departures: [u64; DEPARTURES.len()],
@@ -33,6 +35,8 @@ impl Report {
         counts.pages += found.pages;
         counts.selectors += found.selectors;
         counts.answers += found.answers;
+        self.lists += found.lists;
+        self.listed += found.listed;
         self.not_utf8 += found.not_utf8;
         self.repeating_tags += found.repeating_tags;
         for (sum, more) in self.departures.iter_mut().zip(found.departures) {
@@ -62,6 +66,8 @@ impl Report {
             sum.selectors += more.selectors;
             sum.answers += more.answers;
         }
+        self.lists += other.lists;
+        self.listed += other.listed;
         self.not_utf8 += other.not_utf8;
         self.repeating_tags += other.repeating_tags;
         for (sum, more) in self.departures.iter_mut().zip(other.departures) {
@@ -113,6 +119,10 @@ impl Report {
         }
         println!();
         println!(
+            "{:>12} of the answers are to a list of handles, {} handles together",
+            self.lists, self.listed
+        );
+        println!(
             "{:>12} tags with a repeated attribute name",
             self.repeating_tags
         );
@@ -135,7 +145,8 @@ fn line(name: &str, counts: &Counts) {
 fn show(kind: Kind, input: &Input, difference: &Difference) {
     let (what, bytes) = input.bytes();
     let name = KINDS[kind as usize].1;
-    println!("DIFFERENCE ({name}): {}", difference.question);
+    let question = short(&difference.question.to_string());
+    println!("DIFFERENCE ({name}): {question}");
     println!(
         "  {what:<9} {} bytes: {}",
         bytes.len(),

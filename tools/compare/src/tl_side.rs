@@ -1,5 +1,5 @@
 //! tl's answers, in the form in which they are compared. Places are worked out from where tl's parts lie in the page.
-use crate::model::{Held, Kind, Manner, Piece, Span};
+use crate::model::{Held, Kind, Manner, Piece, Span, Texts};
 use tl::queryselector::{Parser as SelectorParser, QuerySelectorIterator, Selector};
 use tl::{Bytes, HTMLTag, HTMLVersion, Node, NodeHandle, ParserOptions, VDom};
 
@@ -108,6 +108,21 @@ impl<'p> TlPage<'p> {
             Some(None) => Held::Bare,
             Some(Some(value)) => Held::Value(self.span(value)),
         }
+    }
+
+    /// What each tag of a list holds for each name. tl has no call on a list, so it is asked tag by tag.
+    pub fn attributes(&self, tags: &[u32], names: &[&[u8]]) -> Vec<Held> {
+        let of_tag = |&tag: &u32| {
+            let held = move |name: &&[u8]| self.attribute(tag as usize, name);
+            names.iter().map(held)
+        };
+        tags.iter().flat_map(of_tag).collect()
+    }
+
+    /// The texts below each tag of a list, as bytes.
+    pub fn texts(&self, tags: &[u32]) -> Texts {
+        let text = |&tag: &u32| self.text_parts(tag as usize).concat();
+        Texts::of(tags.iter().map(text))
     }
 
     fn manner(&self, manner: Manner) -> &VDom<'p> {

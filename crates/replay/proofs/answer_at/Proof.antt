@@ -3,20 +3,20 @@ use borrow.Author.Needs.{needs}
 use native.Mathlib.Omega.{arith}
 use mathlib.Core.Path.{sym, _∙_}
 use lib.Seq.{length-take-le}
-use Rattle.replay.proofs.Within.{record-within, lent-within}
+use Rattle.replay.proofs.Within.{record-within, lent-within, ahead}
 use Rattle.replay.proofs.answer_at.Statement.{statement}
 use Rattle.replay.proofs.answer_at.Tie as tie
 
 add-end : tie.Need-add-end
-add-end c = let w = record-within _ _ _ _ (sym (c .before .before .before .before .record-at .ensures) ∙ c .before .before .h .given .1) in omega arith
+add-end c = let w = record-within _ _ _ _ (c .before .before .before .before .record-at .ensures) (c .before .before .h .given .1) in omega arith
 
 part-body-end : tie.Need-part-body-end
-part-body-end c = let w = record-within _ _ _ _ (sym (c .before .before .before .before .record-at .ensures) ∙ c .before .before .h .given .1) in omega arith
+part-body-end c = let w = record-within _ _ _ _ (c .before .before .before .before .record-at .ensures) (c .before .before .h .given .1) in omega arith
 
 slice-relend-prefix-own : tie.Need-slice-relend-prefix-own
 slice-relend-prefix-own c =
     let s = c .before .before .before .before .before .before .before .before .before .before .before .before .before .before .before .before .before .before .before .before in
-    let l = lent-within _ _ _ _ _ _ _ (s .pre .0) (s .pre .1) (sym (c .before .before .before .before .before .lend .ensures .0) ∙ c .before .lent .given .1) in
+    let l = lent-within _ _ _ _ _ _ _ (s .pre .0) (s .pre .1) (c .before .before .before .before .before .lend .ensures .0) (c .before .lent .given .1) in
     omega arith
 
 slice-aggregate-own : tie.Need-slice-aggregate-own
@@ -25,21 +25,21 @@ slice-aggregate-own c = sym (length-take-le _ _ (slice-relend-prefix-own (c .bef
 slice-reshare-prefix-answer : tie.Need-slice-reshare-prefix-answer
 slice-reshare-prefix-answer c =
     let s = c .before .before .before .before .before .before .before .before .before .before .before .before .before .before .before .before .before .before .before .before .before in
-    let l = lent-within _ _ _ _ _ _ _ (s .pre .0) (s .pre .1) (sym (c .before .before .before .before .before .before .lend .ensures .0) ∙ c .before .before .lent .given .1) in
+    let l = lent-within _ _ _ _ _ _ _ (s .pre .0) (s .pre .1) (c .before .before .before .before .before .before .lend .ensures .0) (c .before .before .lent .given .1) in
     omega (arith, c .before .before .before .before .before .before .lend .kept)
 
 slice-aggregate-answer : tie.Need-slice-aggregate-answer
 slice-aggregate-answer c = sym (length-take-le _ _ (slice-reshare-prefix-answer (c .before)))
 
 add-next : tie.Need-add-next
-add-next c = let w = record-within _ _ _ _ (sym (c .before .before .before .before .record-at .ensures) ∙ c .before .before .h .given .1) in omega arith
+add-next c = let w = record-within _ _ _ _ (c .before .before .before .before .record-at .ensures) (c .before .before .h .given .1) in omega arith
 
 returns-3 : tie.Need-returns-3
 returns-3 c =
     let s = c .before .before .before .before .before .before .before .before .before .before .before .before .before .before .before .before .before .before .before .before .before .before .before .before .before .before .before .before .before .before .before .before .before .before .before .before .before .before .before .before in
-    let w = record-within _ _ _ _ (sym (c .before .before .before .before .before .before .before .before .before .before .before .before .before .before .before .before .before .before .before .before .before .before .before .before .before .before .before .before .before .before .before .before .record-at .ensures) ∙ c .before .before .before .before .before .before .before .before .before .before .before .before .before .before .before .before .before .before .before .before .before .before .before .before .before .before .before .before .before .before .h .given .1) in
-    let l = lent-within _ _ _ _ _ _ _ (s .pre .0) (s .pre .1) (sym (c .before .before .before .before .before .before .before .before .before .before .before .before .before .before .before .before .before .before .before .before .before .before .before .before .before .lend .ensures .0) ∙ c .before .before .before .before .before .before .before .before .before .before .before .before .before .before .before .before .before .before .before .before .before .lent .given .1) in
-    (omega arith, omega arith, l .0, l .1)
+    let r = record-within _ _ _ _ (c .before .before .before .before .before .before .before .before .before .before .before .before .before .before .before .before .before .before .before .before .before .before .before .before .before .before .before .before .before .before .before .before .record-at .ensures) (c .before .before .before .before .before .before .before .before .before .before .before .before .before .before .before .before .before .before .before .before .before .before .before .before .before .before .before .before .before .before .h .given .1) in
+    let l = lent-within _ _ _ _ _ _ _ (s .pre .0) (s .pre .1) (c .before .before .before .before .before .before .before .before .before .before .before .before .before .before .before .before .before .before .before .before .before .before .before .before .before .lend .ensures .0) (c .before .before .before .before .before .before .before .before .before .before .before .before .before .before .before .before .before .before .before .before .before .lent .given .1) in
+    ahead _ _ r l
 
 pub answer-at-spec : {M : Type 1} → statement M
 answer-at-spec =

@@ -1,12 +1,7 @@
 -- `replay::input_buffer` meets its contract: the law holds for any length, and so no list of that length is computed.
-use mathlib.Core.Path.{_≡_, sym}
-use Prim.Native.Nat.{ℕ}
-use lib.ListN.{length, replicate, length-replicate}
+use Rattle.replay.proofs.Sizes.{long}
 use Rattle.replay.proofs.input_buffer.Statement.{statement}
 use Rattle.replay.proofs.input_buffer.Tie as tie
-
-long : (n a : ℕ) → n ≡ length (replicate n a)
-long n a = sym (length-replicate n a)
 
 returns : tie.Need-returns
 returns c = long 1048576 0

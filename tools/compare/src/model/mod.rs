@@ -5,12 +5,14 @@
 //! exact there as well.
 
 mod cursor;
+mod lists;
 mod lookup;
 mod matching;
 mod reader;
 mod selector;
 mod table;
 
+pub use lists::{Names, Texts};
 pub use lookup::{class_words, Asked};
 pub use reader::read;
 pub use selector::{read_selector, Piece};

@@ -1,0 +1,14 @@
+-- `replay::ask_attributes` meets its contract: what the call answers, in numbers, and the buffer that it leaves.
+use borrow.Author.Needs.{needs}
+use Rattle.replay.proofs.Fields.{prints}
+use Rattle.replay.proofs.ask_attributes.Statement.{statement}
+use Rattle.replay.proofs.ask_attributes.Tie as tie
+
+returns : tie.Need-returns
+returns c = prints (c .before .before .before .before .before .before .before .before .tl-attributes .ensures) (c .before .before .put-list .ensures)
+
+pub ask-attributes-spec : {M : Type 1} → statement M
+ask-attributes-spec =
+    tie.close
+    (tie.spec (λ c κs. search needs) (λ c. search needs) (λ c κs. search needs) (λ c. search needs) (λ c. search needs)
+    returns)
