@@ -11,10 +11,10 @@ ghost use Prim.Native.Nat.{_*_, _≤_, _<_};
 ghost use lib.ListN.{length};
 ghost use Rattle.rules.specs.Lookup.{answer};
 ghost use Rattle.rules.specs.Finds.{valued, nodeHasId, nodeClassTimes};
-ghost use Rattle.rules.specs.Query.{nameOf, textOf, present, tagFits, otherFits, nodeFits, joined, meaning};
+ghost use Rattle.rules.specs.Query.{nameOf, textOf, present, tagFits, otherFits, nodeFits, meaning};
 ghost use Rattle.scan.specs.Marks.{Marked, whiteIn};
 ghost use Rattle.piece.specs.Words.{pieceWords, piecesFrom};
-ghost use Rattle.matching.specs.Matching.{compared, Placed};
+ghost use Rattle.matching.specs.Matching.{compared, Placed, settled};
 
 // ---- parts of the page and of the selector
 
@@ -198,37 +198,42 @@ pub fn fits(t: &[u8; 256], page: &[u8], n: Node, s: &[u8], x: Simple) -> bool
 
 // ---- a chain of pieces
 
-// A piece and the rest of its chain. A piece that makes no difference is not looked at.
-fn join(t: &[u8; 256], page: &[u8], n: Node, s: &[u8], p: Piece, rest: bool) -> bool
+// What a piece settles of its chain: the answer, or that the rest decides.
+enum Settled {
+    Answer(bool),
+    Rest,
+}
+
+// A piece at the head of a chain.
+fn join(t: &[u8; 256], page: &[u8], n: Node, s: &[u8], p: Piece) -> Settled
     requires { ⌜ Marked (now t) × Placed (now page) n ⌝ }
-    ensures { λ r. ⌜
-        r ≡ joined (p .joiner) (nodeFits (whiteIn (now (t .entry))) (now (page .entry)) (now (s .entry)) n (p .simple)) rest
-        ⌝ }
+    ensures { λ r. ⌜ r ≡ settled (p .joiner) (nodeFits (whiteIn (now (t .entry))) (now (page .entry)) (now (s .entry)) n (p .simple)) ⌝ }
 {
     let simple = p.simple;
     let joiner = p.joiner;
     match joiner {
-        Joiner::End => fits(t, page, n, s, simple),
+        Joiner::End => Settled::Answer(fits(t, page, n, s, simple)),
         Joiner::And => {
-            if rest {
-                fits(t, page, n, s, simple)
+            if fits(t, page, n, s, simple) {
+                Settled::Rest
             } else {
-                false
+                Settled::Answer(false)
             }
         }
         Joiner::Or => {
-            if rest {
-                true
+            if fits(t, page, n, s, simple) {
+                Settled::Answer(true)
             } else {
-                fits(t, page, n, s, simple)
+                Settled::Rest
             }
         }
-        Joiner::Descendant => false,
-        Joiner::Parent => false,
+        Joiner::Descendant => Settled::Answer(false),
+        Joiner::Parent => Settled::Answer(false),
     }
 }
 
-// Selector::matches, for the chain that the words say: from the right, `left` pieces being left.
+// Selector::matches, for the chain that the words say. A piece that settles the answer ends the walk: for `tr.fill` only the rows'
+// classes are looked at.
 pub fn matches(t: &[u8; 256], page: &[u8], n: Node, s: &[u8], words: &[u32], pieces: usize) -> bool
     requires { ⌜ Marked (now t) × Placed (now page) n × (pieceWords * pieces ≤ length (now words)) ⌝ }
     ensures { λ r. ⌜
@@ -236,12 +241,13 @@ pub fn matches(t: &[u8; 256], page: &[u8], n: Node, s: &[u8], words: &[u32], pie
         r ≡ meaning fit (piecesFrom pieces (now (words .entry)) 0))
         ⌝ }
 {
-    let mut rest = false;
-    let mut left = pieces;
-    while 0 < left {
-        let p = piece::piece_at(words, left - 1);
-        rest = join(t, page, n, s, p, rest);
-        left -= 1;
+    let mut i = 0;
+    while i < pieces {
+        let p = piece::piece_at(words, i);
+        match join(t, page, n, s, p) {
+            Settled::Answer(answer) => return answer,
+            Settled::Rest => i += 1,
+        }
     }
-    rest
+    false
 }

@@ -1,8 +1,9 @@
--- Laws of the written form: its length; read back it is the same pieces; and the meaning of a chain, read back from the right.
+-- Laws of the written form: its length; read back it is the same pieces; and the meaning of a chain, piece by piece.
 use mathlib.Core.Path.{_≡_, refl, ap}
 use mathlib.Core.Bool.{Bool, false}
 use mathlib.Core.List.{List, [], _∷_, _++_, append-assoc}
 use Prim.Native.Nat.{ℕ, suc, _+_, _-_, _*_, _≤_, _<_}
+use native.Mathlib.Numerals.{add-one}
 use native.Mathlib.Omega.{arith}
 use lib.ListN.{length, length-append}
 use lib.Seq.{take-at, drop-at}
@@ -81,16 +82,15 @@ back-from (p ∷ ps) before after i e =
 pub pieces-back : (ps : List Piece) (after : List ℕ) → piecesFrom (length ps) (written ps ++ after) 0 ≡ ps
 pieces-back ps after = back-from ps [] after 0 refl
 
--- ---- the meaning of n pieces, from the right: i is the piece that was looked at last
+-- ---- the meaning of n pieces, from piece i on
 
-module _ (fits : Simple → Bool) (n : ℕ) (ws : List ℕ) where
-  pub mean-none : meaning fits (piecesFrom (n - n) ws n) ≡ false
+module _ (fits : Simple → Bool) (n : ℕ) (ws : List ℕ) (i : ℕ) where
+  pub mean-none : n ≤ i → meaning fits (piecesFrom (n - i) ws i) ≡ false
   unfolding meaning piecesFrom
-  mean-none = let e : n - n ≡ 0 = omega arith in rw e
+  mean-none l = let e : n - i ≡ 0 = omega arith in rw e
 
-  pub mean-step : (i : ℕ) → 0 < i → i ≤ n
-      → meaning fits (piecesFrom (n - (i - 1)) ws (i - 1))
-      ≡ joined (pieceAt ws (i - 1) .joiner) (fits (pieceAt ws (i - 1) .simple)) (meaning fits (piecesFrom (n - i) ws i))
+  pub mean-next : i < n
+      → meaning fits (piecesFrom (n - i) ws i)
+      ≡ joined (pieceAt ws i .joiner) (fits (pieceAt ws i .simple)) (meaning fits (piecesFrom (n - (i + 1)) ws (i + 1)))
   unfolding meaning piecesFrom
-  mean-step i h k =
-      let e : n - (i - 1) ≡ suc (n - i) = omega arith in let f : suc (i - 1) ≡ i = omega arith in rw (e, f)
+  mean-next l = let e : n - i ≡ suc (n - (i + 1)) = omega arith in rw (e, add-one)

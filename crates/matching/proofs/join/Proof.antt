@@ -1,24 +1,25 @@
--- `matching::join` meets its contract: where the rest decides, the definition gives the same whatever the piece is.
+-- `matching::join` meets its contract: what the joiner and the piece settle.
 use borrow.Author.Needs.{needs}
-use mathlib.Core.Path.{_∙_}
-use mathlib.Core.Bool.{and-true, and-false, or-true, or-false}
+use borrow.Author.Needs.{needs}
+use mathlib.Core.Path.{ap, sym, _∙_}
+use Rattle.matching.specs.declared.Settled.the-variants.{Answer}
 use Rattle.matching.proofs.join.Statement.{statement}
 use Rattle.matching.proofs.join.Tie as tie
 
 returns : tie.Need-returns
-returns c = rw (c .before .enum-told .given .1) (c .fits2 .ensures)
+returns c = rw (c .before .enum-told .given .1) (ap Answer (c .fits2 .ensures))
 
 returns-2 : tie.Need-returns-2
-returns-2 c = c .fits3 .ensures ∙ rw (c .before .before .enum-told2 .given .1, c .before .if1 .taken, and-true)
+returns-2 c = rw (c .before .before .enum-told2 .given .1, sym (c .before .fits3 .ensures) ∙ c .if1 .taken)
 
 returns-3 : tie.Need-returns-3
-returns-3 c = rw (c .before .enum-told2 .given .1, c .if1 .left, and-false)
+returns-3 c = rw (c .before .before .enum-told2 .given .1, sym (c .before .fits3 .ensures) ∙ c .if1 .left)
 
 returns-4 : tie.Need-returns-4
-returns-4 c = rw (c .before .enum-told3 .given .1, c .if2 .taken, or-true)
+returns-4 c = rw (c .before .before .enum-told3 .given .1, sym (c .before .fits4 .ensures) ∙ c .if2 .taken)
 
 returns-5 : tie.Need-returns-5
-returns-5 c = c .fits4 .ensures ∙ rw (c .before .before .enum-told3 .given .1, c .before .if2 .left, or-false)
+returns-5 c = rw (c .before .before .enum-told3 .given .1, sym (c .before .fits4 .ensures) ∙ c .if2 .left)
 
 returns-6 : tie.Need-returns-6
 returns-6 c = rw (c .enum-told4 .given .1)
