@@ -3,7 +3,6 @@
 use rules::Held;
 use rules::Joiner;
 use rules::Node;
-use rules::Piece;
 use rules::Simple;
 use rules::Span;
 ghost use mathlib.Core.Path.{_≡_};
@@ -204,24 +203,21 @@ enum Settled {
     Rest,
 }
 
-// A piece at the head of a chain.
-fn join(t: &[u8; 256], page: &[u8], n: Node, s: &[u8], p: Piece) -> Settled
-    requires { ⌜ Marked (now t) × Placed (now page) n ⌝ }
-    ensures { λ r. ⌜ r ≡ settled (p .joiner) (nodeFits (whiteIn (now (t .entry))) (now (page .entry)) (now (s .entry)) n (p .simple)) ⌝ }
+// What a piece with this joiner settles, which fits or does not.
+fn settle(joiner: Joiner, fits: bool) -> Settled
+    ensures { λ r. ⌜ r ≡ settled joiner fits ⌝ }
 {
-    let simple = p.simple;
-    let joiner = p.joiner;
     match joiner {
-        Joiner::End => Settled::Answer(fits(t, page, n, s, simple)),
+        Joiner::End => Settled::Answer(fits),
         Joiner::And => {
-            if fits(t, page, n, s, simple) {
+            if fits {
                 Settled::Rest
             } else {
                 Settled::Answer(false)
             }
         }
         Joiner::Or => {
-            if fits(t, page, n, s, simple) {
+            if fits {
                 Settled::Answer(true)
             } else {
                 Settled::Rest
@@ -244,7 +240,10 @@ pub fn matches(t: &[u8; 256], page: &[u8], n: Node, s: &[u8], words: &[u32], pie
     let mut i = 0;
     while i < pieces {
         let p = piece::piece_at(words, i);
-        match join(t, page, n, s, p) {
+        let simple = p.simple;
+        let joiner = p.joiner;
+        let fit = fits(t, page, n, s, simple);
+        match settle(joiner, fit) {
             Settled::Answer(answer) => return answer,
             Settled::Rest => i += 1,
         }

@@ -1,4 +1,3 @@
-pub mod Fields
-pub mod Numbers
+pub mod Lending
 pub mod Sizes
-pub mod Within
+pub mod Writing

@@ -1,21 +1,11 @@
--- The line of an answer, as bytes.
+-- The line of an answer, and the buffers that a call leaves.
 use mathlib.Core.Path.{_≡_}
 use Prim.Native.Nat.{ℕ}
 use mathlib.Core.List.{List, _++_}
-use Rattle.rules.specs.Lists.{each}
 use Rattle.rules.specs.Refusals.{countedNumbers}
 use Rattle.rules.specs.declared.Counted.{Counted}
-use Rattle.lines.specs.Decimal.{decimal}
-use Rattle.lines.specs.Lines.{field, lineFeed}
 use Rattle.lines.specs.Writes.{Writes}
-
--- each number after a space
-abbrev pub fields : List ℕ → List ℕ
-fields numbers = each (λ n. field (decimal n)) numbers
-
--- a word, the numbers, and a line feed
-unfoldable pub line : List ℕ → List ℕ → List ℕ
-line word numbers = word ++ (fields numbers ++ lineFeed)
+use Rattle.records.specs.Printed.{line}
 
 -- a call that writes a buffer: the line has its answer in numbers and the whole buffer, which is left so
 pub record Prints (out word : List ℕ) (answer : Counted) (buffer out₂ : List ℕ) (r : ℕ) (left : List ℕ) : Type 0 where

@@ -4,69 +4,41 @@
 //   1 W T 0   a page, the bytes T times over, read into W words          2 h 0 0   the range of h
 //   3 h 0 0   an attribute of h, the bytes its name                      4 h B 0   the inner text of h
 //   5 m 0 0   the tag with an id, in the manner m                        6 m B 0   the tags with a class
-//   7 B 0 0   the bytes as a selector                                    8 B 0 0   a query over the page
+//   7 0 B 0   the bytes as a selector                                    8 0 B 0   a query over the page
 //   9 h B 0   a query below h                                            12 i v 0  word i of the table becomes v
-// Of a list of handles, the first N that the last of the questions 6, 8 and 9 left in its buffer:
-//   10 N B 0  an attribute of each, the bytes its name
+// Of a list of N handles, with which the bytes begin, each a number with a space after it:
+//   10 N B 0  an attribute of each tag, the rest of the bytes its name
 //   11 N B E  the inner texts, and into E entries where each ends
-//   13 N B K  the attributes of each for K names: the bytes are K numbers, each with a space after it, where the names end in
-//             the text that follows
+//   13 N B K  the attributes of each tag for K names: K numbers like the handles, where the names end, and their text
 // The list in the file stdin beside src/, and in stdout what is to be printed for it, were recorded by tools/compare/run
 // --record. Accepted questions to a page have tl 0.7.8's own answers, those to a list of handles one tag after the other. The
 // words of a table are a model's, once tl's nodes agree with it; refusals, and what a buffer holds, follow the rules.
-use rules::Expected;
+use records::Head;
+use records::Place;
+use records::Record;
 ghost use mathlib.Core.Path.{_≡_};
-ghost use mathlib.Core.List.{[], _∷_, _++_};
-ghost use Prim.Native.Nat.{_-_, _≤_, min};
+ghost use mathlib.Core.List.{[], _∷_};
+ghost use Prim.Native.Nat.{_≤_};
 ghost use lib.ListN.{length, set};
 ghost use Rattle.rules.specs.Ascii.{bytes};
 ghost use Rattle.rules.specs.Bytes.{isWhite};
 ghost use Rattle.rules.specs.Names.{isVoid};
-ghost use Rattle.rules.specs.Scan.{skip};
 ghost use Rattle.rules.specs.Refusals.{rangedNumbers, foundNumbers, askedNumbers};
 ghost use Rattle.rules.specs.Answers.{parseAnswer, parseTable, selectorAnswer, selectorBuffer, rangeAnswer, textAnswer, textBuffer, attributeAnswer, idAnswer, classAnswer, classBuffer, queryAnswer, queryBuffer, queryBelowAnswer, queryBelowBuffer};
 ghost use Rattle.rules.specs.Batch.{attributesAnswer, attributesBuffer, namesAnswer, namesBuffer, textsAnswer, textsBuffer, endsBuffer};
-ghost use Rattle.lines.specs.Decimal.{decimal};
-ghost use Rattle.lines.specs.Lines.{field};
 ghost use Rattle.lines.specs.Writes.{Writes};
 ghost use Rattle.tl.specs.Exports.{mannerOf};
-ghost use Rattle.replay.specs.Records.{isDigit, valueFrom, limit, numberAt, numberBefore, recordAt, NumbersTo, repeated, lentBy, pageBy, Ahead};
-ghost use Rattle.replay.specs.Printed.{fields, line, Prints, PrintsBoth};
+ghost use Rattle.records.specs.Printed.{line};
+ghost use Rattle.replay.specs.Lending.{repeated, lentBy, pageBy, Ahead};
+ghost use Rattle.replay.specs.Printed.{Prints, PrintsBoth};
 ghost use Rattle.replay.specs.declared.Lent.the-variants.{Parts};
 
-// Numbers are below 2^32.
-const LIMIT: u64 = 4294967296;
-
-// A number, and the place after it.
-enum Number {
-    Read(u32, usize),
-    Bad,
-}
-
-// The five numbers of a record: what is asked, three more, and how many bytes follow.
-struct Head {
-    op: u32,
-    a: u32,
-    b: u32,
-    c: u32,
-    n: u32,
-}
-
-// A record's numbers, and the place where its bytes start.
-enum Record {
-    Whole(Head, usize),
-    Bad,
-}
+// The most handles of a list, and the most ends of names and of texts.
+const MOST: usize = 256;
 
 // How many bytes of the page and words of the table the questions are about.
 enum Lent {
     Parts(usize, usize),
-    Bad,
-}
-
-// The place after what was read or written, or none for a record that is not one.
-enum Place {
-    To(usize),
     Bad,
 }
 
@@ -82,208 +54,6 @@ enum Ended {
     Bad,
 }
 
-// ---- reading a record
-
-fn is_digit(b: u8) -> bool
-    ensures { λ r. ⌜ r ≡ isDigit b ⌝ }
-{
-    (b'0' <= b) & (b <= b'9')
-}
-
-// The end of the digits at the place.
-fn skip_digits(s: &[u8], at: usize) -> usize
-    ensures { λ r. ⌜ r ≡ skip isDigit (now (s .entry)) at ⌝ }
-{
-    let mut i = at;
-    while i < s.len() {
-        if is_digit(s[i]) {
-            i += 1;
-        } else {
-            return i;
-        }
-    }
-    i
-}
-
-fn digit(b: u8) -> u64
-    ensures { λ r. ⌜ r ≡ b - 48 ⌝ }
-{
-    if b < b'0' { 0 } else { (b - b'0') as u64 }
-}
-
-fn capped(n: u64) -> u64
-    ensures { λ r. ⌜ r ≡ min n limit ⌝ }
-{
-    if n < LIMIT { n } else { LIMIT }
-}
-
-// The number that digits say, or 2^32 if it is not below that.
-fn value(digits: &[u8]) -> u64
-    ensures { λ r. ⌜ r ≡ min (valueFrom 0 (now (digits .entry))) limit ⌝ }
-{
-    let mut n: u64 = 0;
-    let mut i = 0;
-    while i < digits.len() {
-        n = capped(n * 10 + digit(digits[i]));
-        i += 1;
-    }
-    n
-}
-
-// The number at the place: 1 to 10 digits, below 2^32.
-fn number_at(s: &[u8], at: usize) -> Number
-    ensures { λ r. ⌜ r ≡ numberAt (now (s .entry)) at ⌝ }
-{
-    let end = skip_digits(s, at);
-    let size = end - at;
-    if size == 0 {
-        return Number::Bad;
-    }
-    if 10 < size {
-        return Number::Bad;
-    }
-    let n = value(&s[at..end]);
-    if n < LIMIT {
-        return Number::Read(n as u32, end);
-    }
-    Number::Bad
-}
-
-// The number at the place, and the byte q after it.
-fn number_before(s: &[u8], at: usize, q: u8) -> Number
-    ensures { λ r. ⌜ r ≡ numberBefore q (now (s .entry)) at ⌝ }
-{
-    let Number::Read(n, end) = number_at(s, at) else {
-        return Number::Bad;
-    };
-    let Expected::Next(next) = scan::expect_and_skip(s, end, q) else {
-        return Number::Bad;
-    };
-    Number::Read(n, next)
-}
-
-// The record at the place: its numbers with a space after each but the last, its bytes, and a line feed after both.
-fn record_at(s: &[u8], at: usize) -> Record
-    ensures { λ r. ⌜ r ≡ recordAt (now (s .entry)) at ⌝ }
-{
-    let Number::Read(op, at_a) = number_before(s, at, b' ') else {
-        return Record::Bad;
-    };
-    let Number::Read(a, at_b) = number_before(s, at_a, b' ') else {
-        return Record::Bad;
-    };
-    let Number::Read(b, at_c) = number_before(s, at_b, b' ') else {
-        return Record::Bad;
-    };
-    let Number::Read(c, at_n) = number_before(s, at_c, b' ') else {
-        return Record::Bad;
-    };
-    let Number::Read(n, start) = number_before(s, at_n, b'\n') else {
-        return Record::Bad;
-    };
-    if scan::is_at(s, start + n as usize, b'\n') {
-        return Record::Whole(Head { op, a, b, c, n }, start);
-    }
-    Record::Bad
-}
-
-// Reads a number for each entry, with a space after it, and answers the place after them.
-fn numbers_at(s: &[u8], at: usize, numbers: &mut [usize]) -> Place
-    ensures { λ r. ⌜ NumbersTo (now (s .entry)) at (now (numbers .exit)) r ⌝ }
-{
-    let mut place = at;
-    let mut i = 0;
-    while i < numbers.len() {
-        let Number::Read(n, next) = number_before(s, place, b' ') else {
-            return Place::Bad;
-        };
-        numbers[i] = n as usize;
-        place = next;
-        i += 1;
-    }
-    Place::To(place)
-}
-
-// Whether the record is of a known kind, with zeros for the numbers that its kind does not use.
-fn is_known(h: Head) -> bool {
-    let op = h.op;
-    match op {
-        1 | 6 | 9 | 10 => h.c == 0,
-        3 | 5 | 7 | 8 => (h.b == 0) & (h.c == 0),
-        4 | 12 => (h.c == 0) & (h.n == 0),
-        2 => (h.b == 0) & (h.c == 0) & (h.n == 0),
-        11 => h.n == 0,
-        13 => true,
-        _ => false,
-    }
-}
-
-// ---- a line: a word, then each number after a space, then a line feed
-
-fn put_sizes(out: &mut [u8], at: usize, values: &[usize]) -> usize
-    ensures { λ r. ⌜ Writes (now (out .entry)) at (fields (now (values .entry))) (now (out .exit)) r ⌝ }
-{
-    let mut place = at;
-    let mut i = 0;
-    while i < values.len() {
-        place = lines::put_size(out, place, values[i]);
-        i += 1;
-    }
-    place
-}
-
-fn put_words(out: &mut [u8], at: usize, values: &[u32]) -> usize
-    ensures { λ r. ⌜ Writes (now (out .entry)) at (fields (now (values .entry))) (now (out .exit)) r ⌝ }
-{
-    let mut place = at;
-    let mut i = 0;
-    while i < values.len() {
-        place = lines::put_size(out, place, values[i] as usize);
-        i += 1;
-    }
-    place
-}
-
-fn put_bytes(out: &mut [u8], at: usize, values: &[u8]) -> usize
-    ensures { λ r. ⌜ Writes (now (out .entry)) at (fields (now (values .entry))) (now (out .exit)) r ⌝ }
-{
-    let mut place = at;
-    let mut i = 0;
-    while i < values.len() {
-        place = lines::put_size(out, place, values[i] as usize);
-        i += 1;
-    }
-    place
-}
-
-// The line of a number and some values.
-fn put_line(out: &mut [u8], word: &[u8], number: u32, values: &[usize]) -> usize
-    ensures { λ r. ⌜ Writes (now (out .entry)) 0 (line (now (word .entry)) (number ∷ now (values .entry))) (now (out .exit)) r ⌝ }
-{
-    let named = lines::put(out, 0, word);
-    let numbered = lines::put_size(out, named, number as usize);
-    let end = put_sizes(out, numbered, values);
-    lines::put_byte(out, end, b'\n')
-}
-
-// The start of a line: its word, a refusal's number and a count.
-fn put_counted(out: &mut [u8], word: &[u8], number: u32, count: usize) -> usize
-    ensures { λ r. ⌜ Writes (now (out .entry)) 0 (now (word .entry) ++ (field (decimal number) ++ field (decimal count))) (now (out .exit)) r ⌝ }
-{
-    let named = lines::put(out, 0, word);
-    let numbered = lines::put_size(out, named, number as usize);
-    lines::put_size(out, numbered, count)
-}
-
-// The line of a call that writes words.
-fn put_list(out: &mut [u8], word: &[u8], number: u32, count: usize, words: &[u32]) -> usize
-    ensures { λ r. ⌜ Writes (now (out .entry)) 0 (line (now (word .entry)) (number ∷ count ∷ now (words .entry))) (now (out .exit)) r ⌝ }
-{
-    let counted = put_counted(out, word, number, count);
-    let end = put_words(out, counted, words);
-    lines::put_byte(out, end, b'\n')
-}
-
 // ---- each question, with the buffer that its answer is written into
 
 fn ask_parse(page: &[u8], table: &mut [u32], out: &mut [u8]) -> usize
@@ -295,7 +65,7 @@ fn ask_parse(page: &[u8], table: &mut [u32], out: &mut [u8]) -> usize
 {
     let mut count = 0;
     let number = tl::tl_parse(page, table, &mut count);
-    put_list(out, b"parse", number, count, table)
+    records::put_list(out, b"parse", number, count, table)
 }
 
 fn ask_range(page: &[u8], table: &[u32], h: usize, out: &mut [u8]) -> usize
@@ -306,7 +76,7 @@ fn ask_range(page: &[u8], table: &[u32], h: usize, out: &mut [u8]) -> usize
 {
     let mut answer = [0; 3];
     let number = tl::tl_range(page, table, h, &mut answer);
-    put_line(out, b"range", number, &answer)
+    records::put_line(out, b"range", number, &answer)
 }
 
 fn ask_attribute(page: &[u8], table: &[u32], h: usize, name: &[u8], out: &mut [u8]) -> usize
@@ -317,7 +87,7 @@ fn ask_attribute(page: &[u8], table: &[u32], h: usize, name: &[u8], out: &mut [u
 {
     let mut answer = [0; 3];
     let number = tl::tl_attribute(page, table, h, name, &mut answer);
-    put_line(out, b"attribute", number, &answer)
+    records::put_line(out, b"attribute", number, &answer)
 }
 
 fn ask_text(page: &[u8], table: &[u32], h: usize, text: &mut [u8], out: &mut [u8]) -> usize
@@ -330,8 +100,8 @@ fn ask_text(page: &[u8], table: &[u32], h: usize, text: &mut [u8], out: &mut [u8
 {
     let mut count = 0;
     let number = tl::tl_inner_text(page, table, h, text, &mut count);
-    let counted = put_counted(out, b"text", number, count);
-    let end = put_bytes(out, counted, text);
+    let counted = records::put_counted(out, b"text", number, count);
+    let end = records::put_bytes(out, counted, text);
     lines::put_byte(out, end, b'\n')
 }
 
@@ -343,7 +113,7 @@ fn ask_id(page: &[u8], table: &[u32], manner: u32, id: &[u8], out: &mut [u8]) ->
 {
     let mut answer = [0; 2];
     let number = tl::tl_get_element_by_id(page, table, manner, id, &mut answer);
-    put_line(out, b"id", number, &answer)
+    records::put_line(out, b"id", number, &answer)
 }
 
 fn ask_class(
@@ -365,7 +135,7 @@ fn ask_class(
 {
     let mut count = 0;
     let number = tl::tl_get_elements_by_class_name(page, table, manner, class, words, &mut count);
-    put_list(out, b"class", number, count, words)
+    records::put_list(out, b"class", number, count, words)
 }
 
 fn ask_selector(s: &[u8], words: &mut [u32], out: &mut [u8]) -> usize
@@ -377,7 +147,7 @@ fn ask_selector(s: &[u8], words: &mut [u32], out: &mut [u8]) -> usize
 {
     let mut count = 0;
     let number = tl::tl_parse_query_selector(s, words, &mut count);
-    put_list(out, b"selector", number, count, words)
+    records::put_list(out, b"selector", number, count, words)
 }
 
 fn ask_query(page: &[u8], table: &[u32], s: &[u8], words: &mut [u32], out: &mut [u8]) -> usize
@@ -391,7 +161,7 @@ fn ask_query(page: &[u8], table: &[u32], s: &[u8], words: &mut [u32], out: &mut 
 {
     let mut count = 0;
     let number = tl::tl_query_selector(page, table, s, words, &mut count);
-    put_list(out, b"query", number, count, words)
+    records::put_list(out, b"query", number, count, words)
 }
 
 fn ask_below(
@@ -412,7 +182,7 @@ fn ask_below(
 {
     let mut count = 0;
     let number = tl::tl_query_selector_below(page, table, h, s, words, &mut count);
-    put_list(out, b"below", number, count, words)
+    records::put_list(out, b"below", number, count, words)
 }
 
 // ---- the questions about a list of handles
@@ -435,7 +205,7 @@ fn ask_attributes(
 {
     let mut count = 0;
     let number = tl::tl_attributes(page, table, handles, name, words, &mut count);
-    put_list(out, b"attributes", number, count, words)
+    records::put_list(out, b"attributes", number, count, words)
 }
 
 fn ask_names(
@@ -458,7 +228,7 @@ fn ask_names(
 {
     let mut count = 0;
     let number = tl::tl_attributes_for_names(page, table, handles, names, ends, words, &mut count);
-    put_list(out, b"names", number, count, words)
+    records::put_list(out, b"names", number, count, words)
 }
 
 fn ask_texts(
@@ -481,9 +251,9 @@ fn ask_texts(
 {
     let mut count = 0;
     let number = tl::tl_inner_texts(page, table, handles, ends, text, &mut count);
-    let counted = put_counted(out, b"texts", number, count);
-    let placed = put_sizes(out, counted, ends);
-    let end = put_bytes(out, placed, text);
+    let counted = records::put_counted(out, b"texts", number, count);
+    let placed = records::put_sizes(out, counted, ends);
+    let end = records::put_bytes(out, placed, text);
     lines::put_byte(out, end, b'\n')
 }
 
@@ -505,7 +275,7 @@ fn set_word(table: &mut [u32], i: u32, v: u32, out: &mut [u8]) -> usize
 {
     damage(table, i as usize, v);
     let values = [v as usize];
-    put_line(out, b"word", i, &values)
+    records::put_line(out, b"word", i, &values)
 }
 
 // ---- a record's buffers: nines in as much of them as it asks for
@@ -561,37 +331,58 @@ fn answer_text(h: Head, page: &[u8], table: &[u32], text: &mut [u8], out: &mut [
     Place::To(ask_text(page, table, h.a as usize, part, out))
 }
 
-fn answer_selector(h: Head, body: &[u8], pieces: &mut [u32], out: &mut [u8]) -> Place {
-    let size = h.a as usize;
-    if pieces.len() < size {
-        return Place::Bad;
-    }
-    let part = &mut pieces[..size];
-    closing::fill(part, 9);
-    Place::To(ask_selector(body, part, out))
-}
-
-// The questions for a list of handles, which stays in the buffer for the records after it.
-fn answer_list(
+// The question for the texts of a list of handles.
+fn answer_texts(
     h: Head,
     body: &[u8],
     page: &[u8],
     table: &[u32],
+    text: &mut [u8],
+    out: &mut [u8],
+) -> Place {
+    let n = h.a as usize;
+    let size = h.b as usize;
+    let places = h.c as usize;
+    let mut list = [0; MOST];
+    let mut room = [9; MOST];
+    if list.len() < n {
+        return Place::Bad;
+    }
+    if text.len() < size {
+        return Place::Bad;
+    }
+    if room.len() < places {
+        return Place::Bad;
+    }
+    let handles = &mut list[..n];
+    let Place::To(_) = records::words_at(body, 0, handles) else {
+        return Place::Bad;
+    };
+    let part = &mut text[..size];
+    repeat(part, b"\t", size);
+    Place::To(ask_texts(page, table, handles, &mut room[..places], part, out))
+}
+
+// The question for the attributes of a list of handles for several names.
+fn answer_names(
+    k: usize,
+    body: &[u8],
+    page: &[u8],
+    table: &[u32],
+    handles: &[u32],
     words: &mut [u32],
     out: &mut [u8],
 ) -> Place {
-    let op = h.op;
-    let size = if op == 8 { h.a as usize } else { h.b as usize };
-    if words.len() < size {
+    let mut room = [0; MOST];
+    if room.len() < k {
         return Place::Bad;
     }
-    let part = &mut words[..size];
-    closing::fill(part, 9);
-    match op {
-        6 => Place::To(ask_class(page, table, h.a, body, part, out)),
-        8 => Place::To(ask_query(page, table, body, part, out)),
-        _ => Place::To(ask_below(page, table, h.a as usize, body, part, out)),
-    }
+    let ends = &mut room[..k];
+    let Place::To(at) = records::places_at(body, 0, ends) else {
+        return Place::Bad;
+    };
+    let names = scan::part(body, at, body.len());
+    Place::To(ask_names(page, table, handles, names, ends, words, out))
 }
 
 // The questions for the attributes of a list of handles.
@@ -600,78 +391,51 @@ fn answer_held(
     body: &[u8],
     page: &[u8],
     table: &[u32],
-    words: &[u32],
-    pieces: &mut [u32],
+    words: &mut [u32],
     out: &mut [u8],
 ) -> Place {
     let n = h.a as usize;
-    let size = h.b as usize;
-    if words.len() < n {
+    let mut list = [0; MOST];
+    if list.len() < n {
         return Place::Bad;
     }
-    if pieces.len() < size {
+    let handles = &mut list[..n];
+    let Place::To(at) = records::words_at(body, 0, handles) else {
         return Place::Bad;
-    }
-    let handles = &words[..n];
-    let part = &mut pieces[..size];
-    closing::fill(part, 9);
+    };
+    let rest = scan::part(body, at, body.len());
     if h.op == 10 {
-        return Place::To(ask_attributes(page, table, handles, body, part, out));
+        return Place::To(ask_attributes(page, table, handles, rest, words, out));
     }
-    answer_names(h, body, page, table, handles, part, out)
+    answer_names(h.c as usize, rest, page, table, handles, words, out)
 }
 
-// For several names, whose ends come first.
-fn answer_names(
+// The questions whose answers are words.
+fn answer_words(
     h: Head,
     body: &[u8],
     page: &[u8],
     table: &[u32],
-    handles: &[u32],
     words: &mut [u32],
     out: &mut [u8],
 ) -> Place {
-    let k = h.c as usize;
-    let mut room = [0; 256];
-    if room.len() < k {
-        return Place::Bad;
-    }
-    let ends = &mut room[..k];
-    let Place::To(start) = numbers_at(body, 0, ends) else {
-        return Place::Bad;
-    };
-    let names = scan::part(body, start, body.len());
-    Place::To(ask_names(page, table, handles, names, ends, words, out))
-}
-
-// The question for the texts of a list of handles.
-fn answer_texts(
-    h: Head,
-    page: &[u8],
-    table: &[u32],
-    words: &[u32],
-    text: &mut [u8],
-    out: &mut [u8],
-) -> Place {
-    let n = h.a as usize;
     let size = h.b as usize;
-    let places = h.c as usize;
-    if words.len() < n {
+    if words.len() < size {
         return Place::Bad;
     }
-    if text.len() < size {
-        return Place::Bad;
+    let part = &mut words[..size];
+    closing::fill(part, 9);
+    let op = h.op;
+    match op {
+        6 => Place::To(ask_class(page, table, h.a, body, part, out)),
+        7 => Place::To(ask_selector(body, part, out)),
+        8 => Place::To(ask_query(page, table, body, part, out)),
+        9 => Place::To(ask_below(page, table, h.a as usize, body, part, out)),
+        _ => answer_held(h, body, page, table, part, out),
     }
-    let mut room = [9; 256];
-    if room.len() < places {
-        return Place::Bad;
-    }
-    let part = &mut text[..size];
-    repeat(part, b"\t", size);
-    Place::To(ask_texts(page, table, &words[..n], &mut room[..places], part, out))
 }
 
-// The questions that are answered in numbers alone.
+// The questions whose answers are numbers alone.
 fn answer_numbers(h: Head, body: &[u8], page: &[u8], table: &[u32], out: &mut [u8]) -> Place {
     let op = h.op;
     let a = h.a as usize;
@@ -690,10 +454,9 @@ fn answer(
     table: &mut [u32],
     text: &mut [u8],
     words: &mut [u32],
-    pieces: &mut [u32],
     out: &mut [u8],
 ) -> Place {
-    if !is_known(h) {
+    if !records::is_known(h) {
         return Place::Bad;
     }
     let op = h.op;
@@ -701,11 +464,9 @@ fn answer(
         1 => answer_parse(page, table, out),
         2 | 3 | 5 => answer_numbers(h, body, page, table, out),
         4 => answer_text(h, page, table, text, out),
-        7 => answer_selector(h, body, pieces, out),
-        10 | 13 => answer_held(h, body, page, table, words, pieces, out),
-        11 => answer_texts(h, page, table, words, text, out),
+        11 => answer_texts(h, body, page, table, text, out),
         12 => Place::To(set_word(table, h.a, h.b, out)),
-        _ => answer_list(h, body, page, table, words, out),
+        _ => answer_words(h, body, page, table, words, out),
     }
 }
 
@@ -732,13 +493,12 @@ fn answer_at(
     table: &mut [u32],
     text: &mut [u8],
     words: &mut [u32],
-    pieces: &mut [u32],
     out: &mut [u8],
 ) -> Step
     requires { ⌜ (b ≤ length (now page)) × (w ≤ length (now table)) ⌝ }
     ensures { λ r. ⌜ Ahead r at (length (now (input .entry))) (length (now (page .entry))) (length (now (table .entry))) ⌝ }
 {
-    let Record::Whole(h, start) = record_at(input, at) else {
+    let Record::Whole(h, start) = records::record_at(input, at) else {
         return Step::Bad;
     };
     let end = start + h.n as usize;
@@ -749,7 +509,7 @@ fn answer_at(
         return Step::Bad;
     };
     let own = &mut table[..size];
-    let line = answer(h, body, &page[..bytes], own, text, words, pieces, out);
+    let line = answer(h, body, &page[..bytes], own, text, words, out);
     if write_line(out, line) {
         return Step::To(next, bytes, size);
     }
@@ -763,7 +523,6 @@ fn replay(
     table: &mut [u32],
     text: &mut [u8],
     words: &mut [u32],
-    pieces: &mut [u32],
     out: &mut [u8],
 ) -> Ended {
     let mut at = 0;
@@ -771,7 +530,7 @@ fn replay(
     let mut b = 0;
     let mut w = 0;
     while at < input.len() {
-        let step = answer_at(input, at, b, w, page, table, text, words, pieces, out);
+        let step = answer_at(input, at, b, w, page, table, text, words, out);
         let Step::To(next, bytes, size) = step else {
             return Ended::Bad;
         };
@@ -813,7 +572,6 @@ fn main() {
     let mut table = [0u32; 16384];
     let mut text = page_buffer();
     let mut words = [0u32; 4096];
-    let mut pieces = [0u32; 4096];
     let mut out = line_buffer();
     let n = io::read_full(0, &mut input);
     let ended = replay(
@@ -822,7 +580,6 @@ fn main() {
         &mut table,
         &mut text,
         &mut words,
-        &mut pieces,
         &mut out,
     );
     let Ended::Answered(count) = ended else {

@@ -22,17 +22,14 @@ use std::path::Path;
 const MARK: usize = 9;
 /// The most rows that its table has room for.
 const ROWS: usize = 2_047;
-/// The handles that its buffer for a list has room for.
-const HANDLES: usize = 4_096;
 /// The most questions of one kind that are recorded of a random page.
 const FEW: usize = 5;
 
+#[derive(Default)]
 struct Recording {
     asked: Vec<u8>,
     printed: String,
     records: usize,
-    /// what stands in the buffer for lists of handles
-    handles: Vec<u32>,
 }
 
 type Answer = Result<Vec<usize>, usize>;
@@ -55,19 +52,14 @@ impl Recording {
 
     /// A question that fills a buffer of `room` entries, `each` for one of what is counted.
     fn list(&mut self, ask: ([usize; 4], &[u8], &str), room: usize, each: usize, answer: &Answer) {
-        let (numbers, bytes, word) = ask;
         let said = match answer {
             Ok(found) => filled(found.len() / each, &[(room, found)]),
             Err(number) => refused(*number, room),
         };
-        if let 6 | 8 | 9 = numbers[0] {
-            let handles = said[2..].iter().map(|&handle| handle as u32);
-            self.handles.splice(..room, handles);
-        }
-        self.record(numbers, bytes, word, &said);
+        self.record(ask.0, ask.1, ask.2, &said);
     }
 
-    /// The same with a buffer that is one short, with one to spare, and with one that is exactly full.
+    /// The same with a buffer that is exactly full, with one that is one short, and with one to spare.
     fn rooms(
         &mut self,
         ask: impl Fn(usize) -> [usize; 4],
@@ -77,7 +69,7 @@ impl Recording {
         answer: &Answer,
     ) {
         let size = answer.as_ref().map_or(0, Vec::len);
-        for room in size.checked_sub(1).into_iter().chain([size + 1, size]) {
+        for room in [size, size + 1].into_iter().chain(size.checked_sub(1)) {
             self.list((ask(room), bytes, word), room, each, answer);
         }
     }
@@ -104,7 +96,7 @@ impl Recording {
             None => Err(6),
             Some(chain) => Ok(chain.iter().flat_map(words_of).collect()),
         };
-        self.rooms(|room| [7, room, 0, 0], selector, "selector", 6, &answer);
+        self.rooms(|room| [7, 0, room, 0], selector, "selector", 6, &answer);
     }
 }
 
@@ -177,7 +169,8 @@ fn is_plain(page: &[u8]) -> bool {
 /// Reads a page and asks tl what `asks` names.
 fn questions(to: &mut Recording, page: &[u8], random: &mut Random) {
     let reading = model::read(page);
-    let asks = Asks::of_page(&Asked::new(page, &reading.rows), random);
+    let asked = Asked::new(page, &reading.rows);
+    let asks = Asks::of_page(&asked, random);
     let tl = TlPage::read(tl_side::as_str(page));
     to.page(page, 1, 8 + 8 * reading.rows.len() + random.below(3));
     let beyond = reading.rows.len() + random.below(3);
@@ -196,7 +189,7 @@ fn questions(to: &mut Recording, page: &[u8], random: &mut Random) {
         to.record([3, *tag, 0, 0], name, "attribute", &said);
     }
     lookups(to, &tl, &asks);
-    lists::questions(to, page, &tl, &asks, random);
+    lists::questions(to, &asked, &tl, &asks.lists, random);
 }
 
 fn numbers_of(bytes: &[u8]) -> Vec<usize> {
@@ -225,7 +218,7 @@ fn lookups(to: &mut Recording, tl: &TlPage, asks: &Asks) {
     }
     for selector in &asks.selectors {
         let found = found(selector, || tl.query(selector));
-        to.rooms(|room| [8, room, 0, 0], selector, "query", 1, &found);
+        to.rooms(|room| [8, 0, room, 0], selector, "query", 1, &found);
         to.selector(selector);
     }
     for (tag, selector) in asks.below.iter().take(FEW) {
@@ -249,7 +242,7 @@ fn all_refused(to: &mut Recording, number: usize) {
     to.list(([4, 0, 3, 0], b"", "text"), 3, 1, &Err(number));
     to.record([5, 0, 0, 0], b"k", "id", &[number, 0, 0]);
     to.list(([6, 1, 2, 0], b"k", "class"), 2, 1, &Err(number));
-    to.list(([8, 2, 0, 0], b"a,", "query"), 2, 1, &Err(number));
+    to.list(([8, 0, 2, 0], b"a,", "query"), 2, 1, &Err(number));
     to.list(([9, 0, 2, 0], b"a,", "below"), 2, 1, &Err(number));
     lists::refused(to, number);
 }
@@ -266,7 +259,7 @@ fn limits(to: &mut Recording) {
     for (length, refused) in [(PAGE_LIMIT, false), (PAGE_LIMIT + 1, true)] {
         to.page(b"a", length, 16);
         to.list(
-            ([8, 1, 0, 0], b"*", "query"),
+            ([8, 0, 1, 0], b"*", "query"),
             1,
             1,
             &if refused { Err(1) } else { Ok(vec![0]) },
@@ -284,7 +277,7 @@ fn limits(to: &mut Recording) {
         } else {
             Ok(vec![])
         };
-        to.rooms(|room| [8, room, 0, 0], &selector, "query", 1, &none);
+        to.rooms(|room| [8, 0, room, 0], &selector, "query", 1, &none);
     }
 }
 
@@ -312,7 +305,7 @@ fn damaged_tables(to: &mut Recording) {
 /// The table as it was is sound again.
 fn all_still_asked(to: &mut Recording, rows: usize) {
     let all = Ok((0..rows).collect());
-    to.rooms(|room| [8, room, 0, 0], b"*", "query", 1, &all);
+    to.rooms(|room| [8, 0, room, 0], b"*", "query", 1, &all);
 }
 
 fn random_pages(to: &mut Recording, seed: u64) {
@@ -341,12 +334,7 @@ fn random_pages(to: &mut Recording, seed: u64) {
 
 /// Writes the two files into a folder.
 pub fn record(folder: &Path, seed: u64) -> io::Result<()> {
-    let mut to = Recording {
-        asked: Vec::new(),
-        printed: String::new(),
-        records: 0,
-        handles: vec![0; HANDLES],
-    };
+    let mut to = Recording::default();
     for page in pages::CHECKED {
         if is_plain(page.as_bytes()) {
             questions(

@@ -29,17 +29,17 @@ loop-holds c =
 
 returns : tie.Need-returns Inv-loop μ-loop
 returns c =
-    let a = c .before .before .before .before .before .before .before .before .before .before .args in
-    let l = c .before .before .before .before .before .before .loop in
-    let told = sym (c .before .before .before .join .ensures) ∙ c .before .answer .given .1 in
-    sym (l .inv .1 ∙ chain-answer (nodeFits (whiteIn (a .t .now)) (a .page .now) (a .s .now) (a .n)) (a .pieces) (a .words .now) (l .i) (c .before .before .before .before .before .loop-test .taken) _ (rw (c .before .before .before .before .piece-at .ensures) at told))
+    let a = c .before .before .before .before .before .before .before .before .before .before .before .args in
+    let l = c .before .before .before .before .before .before .before .loop in
+    let told = sym (c .before .before .before .settle .ensures) ∙ c .before .answer .given .1 in
+    sym (l .inv .1 ∙ chain-answer (nodeFits (whiteIn (a .t .now)) (a .page .now) (a .s .now) (a .n)) (a .pieces) (a .words .now) (l .i) (c .before .before .before .before .before .before .loop-test .taken) _ (rw (c .before .before .before .before .fits2 .ensures, c .before .before .before .before .before .piece-at .ensures) at told))
 
 loop-again : tie.Need-loop-again Inv-loop μ-loop
 loop-again c =
-    let a = c .before .before .before .before .before .before .before .before .before .args in
-    let l = c .before .before .before .before .before .loop in
-    let told = sym (c .before .before .join .ensures) ∙ c .enum-told .given .1 in
-    (search needs, l .inv .1 ∙ chain-rest (nodeFits (whiteIn (a .t .now)) (a .page .now) (a .s .now) (a .n)) (a .pieces) (a .words .now) (l .i) (c .before .before .before .before .loop-test .taken) (rw (c .before .before .before .piece-at .ensures) at told))
+    let a = c .before .before .before .before .before .before .before .before .before .before .args in
+    let l = c .before .before .before .before .before .before .loop in
+    let told = sym (c .before .before .settle .ensures) ∙ c .enum-told .given .1 in
+    (search needs, l .inv .1 ∙ chain-rest (nodeFits (whiteIn (a .t .now)) (a .page .now) (a .s .now) (a .n)) (a .pieces) (a .words .now) (l .i) (c .before .before .before .before .before .loop-test .taken) (rw (c .before .before .before .fits2 .ensures, c .before .before .before .before .piece-at .ensures) at told))
 
 returns-2 : tie.Need-returns-2 Inv-loop μ-loop
 returns-2 c = let l = c .before .loop in sym (l .inv .1 ∙ mean-none _ _ _ (l .i) (omega arith))
@@ -47,5 +47,5 @@ returns-2 c = let l = c .before .loop in sym (l .inv .1 ∙ mean-none _ _ _ (l .
 pub matches-spec : {M : Type 1} → statement M
 matches-spec =
     tie.close
-    (tie.spec Inv-loop μ-loop loop-holds (λ c κs. search needs) (λ c κs. search needs) (λ c. search needs) returns
-    (λ c. search needs) (λ c. search needs) (λ c. search needs) loop-again returns-2)
+    (tie.spec Inv-loop μ-loop loop-holds (λ c κs. search needs) (λ c κs. search needs) (λ c κs. search needs)
+    (λ c. search needs) returns (λ c. search needs) (λ c. search needs) (λ c. search needs) loop-again returns-2)

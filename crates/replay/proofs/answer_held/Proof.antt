@@ -1,4 +1,4 @@
--- `replay::answer_held` is safe: the record's parts of the buffers have the sizes that it asks for.
+-- `replay::answer_held` is safe: the part of the buffer has the size that the record asks for.
 use borrow.Author.Needs.{needs}
 use native.Mathlib.Omega.{arith}
 use mathlib.Core.Path.{sym}
@@ -9,8 +9,10 @@ use Rattle.replay.proofs.answer_held.Tie as tie
 slice-aggregate-handles : tie.Need-slice-aggregate-handles
 slice-aggregate-handles c = sym (length-take-le _ _ (omega arith))
 
-slice-aggregate-part : tie.Need-slice-aggregate-part
-slice-aggregate-part c = sym (length-take-le _ _ (omega arith))
-
 pub answer-held-spec : {M : Type 1} → statement M
-answer-held-spec = tie.close (tie.spec (λ c. search needs) (λ c. search needs) (λ c. search needs) (λ c. search needs) slice-aggregate-handles (λ c. search needs) slice-aggregate-part (λ c κs. search needs) (λ c κs. search needs) (λ c. search needs) (λ c. search needs) (λ c. search needs) (λ c κs. search needs) (λ c. search needs) (λ c. search needs) (λ c. search needs))
+answer-held-spec =
+    tie.close
+    (tie.spec (λ c. search needs) (λ c. search needs) (λ c. search needs) slice-aggregate-handles
+    (λ c κs. search needs) (λ c. search needs) (λ c. search needs) (λ c. search needs) (λ c κs. search needs)
+    (λ c κs. search needs) (λ c. search needs) (λ c. search needs) (λ c. search needs) (λ c. search needs)
+    (λ c κs. search needs) (λ c. search needs) (λ c. search needs) (λ c. search needs))

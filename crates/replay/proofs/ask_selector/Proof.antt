@@ -1,6 +1,6 @@
 -- `replay::ask_selector` meets its contract: what the call answers, in numbers, and the buffer that it leaves.
 use borrow.Author.Needs.{needs}
-use Rattle.replay.proofs.Fields.{prints}
+use Rattle.replay.proofs.Writing.{prints}
 use Rattle.replay.proofs.ask_selector.Statement.{statement}
 use Rattle.replay.proofs.ask_selector.Tie as tie
 

@@ -1,7 +1,8 @@
 -- `replay::ask_text` meets its contract: what the call answers, in numbers, and the buffer that it leaves.
 use borrow.Author.Needs.{needs}
 use Rattle.lines.proofs.Laws.{then}
-use Rattle.replay.proofs.Fields.{listed, prints}
+use Rattle.records.proofs.Fields.{listed}
+use Rattle.replay.proofs.Writing.{prints}
 use Rattle.replay.proofs.ask_text.Statement.{statement}
 use Rattle.replay.proofs.ask_text.Tie as tie
 

@@ -1,7 +1,8 @@
 -- `replay::ask_texts` meets its contract: what the call answers, in numbers, and the buffers that it leaves.
 use borrow.Author.Needs.{needs}
 use Rattle.lines.proofs.Laws.{then}
-use Rattle.replay.proofs.Fields.{listed, then-fields, prints-both}
+use Rattle.records.proofs.Fields.{listed, then-fields}
+use Rattle.replay.proofs.Writing.{prints-both}
 use Rattle.replay.proofs.ask_texts.Statement.{statement}
 use Rattle.replay.proofs.ask_texts.Tie as tie
 

@@ -1,8 +1,8 @@
 -- `replay::lend` meets its contract: by the tests that led to each return.
 use borrow.Author.Needs.{needs}
 use borrow.Author.Tests.{eq-eqb, ne-eqb, lt-leb, le-leb}
-use Rattle.replay.specs.Records.{lentBy, pageBy}
-use Rattle.replay.proofs.Numbers.{product}
+use Rattle.replay.specs.Lending.{lentBy, pageBy}
+use Rattle.replay.proofs.Lending.{product}
 use Rattle.replay.proofs.lend.Statement.{statement}
 use Rattle.replay.proofs.lend.Tie as tie
 

@@ -5,8 +5,8 @@ use native.Mathlib.Omega.{arith}
 use mathlib.Core.Path.{_≡_}
 use Rattle.lines.specs.Writes.{Writes}
 use Rattle.lines.proofs.Laws.{none, same-size}
-use Rattle.replay.specs.Records.{repeated}
-use Rattle.replay.proofs.Fields.{repeated-none, then-again}
+use Rattle.replay.specs.Lending.{repeated}
+use Rattle.replay.proofs.Writing.{repeated-none, then-again}
 use Rattle.replay.proofs.repeat.Statement.{statement}
 use Rattle.replay.proofs.repeat.Tie as tie
 

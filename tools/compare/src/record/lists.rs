@@ -1,70 +1,35 @@
-//! The calls on a list of handles. `replay` takes the list from the buffer that its last query or class lookup wrote into.
-use super::{filled, found, numbers_of, three_of, Recording};
-use crate::asks::Asks;
+//! The calls on a list of handles.
+use super::{filled, numbers_of, three_of, Recording};
 use crate::lists::List;
-use crate::model::{self, Asked, Manner};
+use crate::model::Asked;
 use crate::random::Random;
 use crate::tl_side::TlPage;
 
 /// The most handles of a recorded list.
 const LISTED: usize = 100;
 
-/// Asks for a list, and then about the tags in it; of a page with tags twice.
-pub fn questions(to: &mut Recording, page: &[u8], tl: &TlPage, asks: &Asks, random: &mut Random) {
-    let rows = model::read(page).rows;
-    let asked = Asked::new(page, &rows);
-    let lists = match asks.tags.is_empty() {
-        true => random.below(4) / 3,
-        false => 2,
+/// Asks about some of the lists of a page, without tags now and then only: that of all tags, and another.
+pub fn questions(
+    to: &mut Recording,
+    asked: &Asked,
+    tl: &TlPage,
+    lists: &[List],
+    random: &mut Random,
+) {
+    let all = &lists[0];
+    let some = match all.handles.is_empty() {
+        true if !random.once_in(8) => vec![],
+        true => vec![all],
+        false => vec![all, &lists[1 + random.below(lists.len() - 1)]],
     };
-    for _ in 0..lists {
-        list(to, &asked, tl, asks, random);
+    for list in some {
+        if list.handles.len() > LISTED {
+            continue;
+        }
+        let tags = asked.all_tags(&list.handles).then_some(tl);
+        held(to, list, tags, random);
+        texts(to, &list.handles, tags, random);
     }
-}
-
-fn list(to: &mut Recording, asked: &Asked, tl: &TlPage, asks: &Asks, random: &mut Random) {
-    let mut length = 0;
-    // The second list may be shorter than the first, of which then some are left after it: in any order, and some twice.
-    for _ in 0..1 + random.below(2) {
-        length = length.max(find(to, asked, tl, asks, random));
-    }
-    let names = &asks.lists[random.below(asks.lists.len())];
-    let count = LISTED.min(length + random.below(8) / 7);
-    let handles = to.handles[..count].to_vec();
-    let tags = asked.all_tags(&handles).then_some(tl);
-    held(to, &handles, names, tags, random);
-    texts(to, &handles, tags, random);
-}
-
-/// A query for the names of some tags, the tags with a class in closing order, or now and then all nodes. Answers how many.
-fn find(to: &mut Recording, asked: &Asked, tl: &TlPage, asks: &Asks, random: &mut Random) -> usize {
-    let spare = random.below(2);
-    if random.once_in(6) || asks.tags.is_empty() {
-        let tags = |class: &Vec<u8>| tl.by_class(Manner::Closed, class);
-        let class = asks.classes.iter().max_by_key(|class| tags(class).len());
-        let class = class.expect("some class is asked for");
-        let tags = tags(class);
-        let room = tags.len() + spare;
-        to.list(([6, 1, room, 0], class, "class"), room, 1, &Ok(tags));
-        return room - spare;
-    }
-    let selector = match random.once_in(10) {
-        true => b"*".to_vec(),
-        false => any_of(asked, &random.some_of(&asks.tags, 6)),
-    };
-    let found = found(&selector, || tl.query(&selector));
-    let length = found.as_ref().map_or(0, Vec::len);
-    let room = length + spare;
-    to.list(([8, room, 0, 0], &selector, "query"), room, 1, &found);
-    length
-}
-
-/// The selector for all tags that have the name of one of these.
-fn any_of(asked: &Asked, tags: &[usize]) -> Vec<u8> {
-    let names = tags.iter().map(|&tag| asked.rows[tag].name);
-    let names = names.map(|(start, end)| &asked.page[start..end]);
-    let names: Vec<&[u8]> = names.filter(|name| !name.is_empty()).collect();
-    names.join(&b',')
 }
 
 /// One entry too few, as many as are needed, or one too many.
@@ -72,14 +37,15 @@ fn some_room(entries: usize, random: &mut Random) -> usize {
     (entries + random.below(3)).saturating_sub(1)
 }
 
-/// What the tags hold for one name and for several; nothing of a list in which a handle is no tag's.
-fn held(
-    to: &mut Recording,
-    handles: &[u32],
-    list: &List,
-    tags: Option<&TlPage>,
-    random: &mut Random,
-) {
+/// Numbers with a space after each, and the bytes that follow.
+fn body<T: ToString>(numbers: &[T], rest: &[u8]) -> Vec<u8> {
+    let numbers = numbers.iter().map(|number| number.to_string() + " ");
+    [numbers.collect::<String>().as_bytes(), rest].concat()
+}
+
+/// What the tags hold for one name and for several; tl has no answer where a handle is no tag's.
+fn held(to: &mut Recording, list: &List, tags: Option<&TlPage>, random: &mut Random) {
+    let handles = &list.handles;
     let answer = |names: &[&[u8]], room: usize| match tags {
         None => super::refused(4, room),
         Some(tl) => {
@@ -91,18 +57,18 @@ fn held(
     let count = handles.len();
     let room = some_room(3 * count, random);
     let said = answer(&[&list.name], room);
-    to.record([10, count, room, 0], &list.name, "attributes", &said);
+    let asked = body(handles, &list.name);
+    to.record([10, count, room, 0], &asked, "attributes", &said);
 
     let mut names = list.names.clone();
     for end in &mut names.ends {
         // numbers of a record are of 32 bits
         *end = (*end).min(u32::MAX as usize);
     }
-    let ends = names.ends.iter().map(|end| format!("{end} "));
-    let body = [ends.collect::<String>().as_bytes(), &names.text].concat();
     let room = some_room(3 * count * names.ends.len(), random);
     let said = answer(&names.each(), room);
-    to.record([13, count, room, names.ends.len()], &body, "names", &said);
+    let asked = body(handles, &body(&names.ends, &names.text));
+    to.record([13, count, room, names.ends.len()], &asked, "names", &said);
 }
 
 fn texts(to: &mut Recording, handles: &[u32], tags: Option<&TlPage>, random: &mut Random) {
@@ -114,15 +80,18 @@ fn texts(to: &mut Recording, handles: &[u32], tags: Option<&TlPage>, random: &mu
         None => super::refused(4, places + room),
         Some(_) => filled(handles.len(), &[(places, &texts.ends), (room, &bytes)]),
     };
-    to.record([11, handles.len(), room, places], b"", "texts", &said);
+    let asked = body(handles, b"");
+    to.record([11, handles.len(), room, places], &asked, "texts", &said);
 }
 
 /// Every question about a list, empty or not, is refused with this number.
 pub fn refused(to: &mut Recording, number: usize) {
-    for count in [0, 1] {
-        let said = super::refused(number, 3);
-        to.record([10, count, 3, 0], b"k", "attributes", &said);
-        to.record([11, count, 2, 1], b"", "texts", &said);
-        to.record([13, count, 3, 1], b"1 k", "names", &said);
+    let said = super::refused(number, 3);
+    for handles in [&[][..], &[0][..]] {
+        let count = handles.len();
+        let list = |rest| body(handles, rest);
+        to.record([10, count, 3, 0], &list(b"k"), "attributes", &said);
+        to.record([11, count, 2, 1], &list(b""), "texts", &said);
+        to.record([13, count, 3, 1], &list(b"1 k"), "names", &said);
     }
 }

@@ -1,0 +1,24 @@
+-- The number that digits say, kept at 2^32 once it is not below that.
+use mathlib.Core.Path.{_≡_, sym, ap, _∙_}
+use mathlib.Core.List.{List, [], _∷_}
+use Prim.Native.Nat.{ℕ, suc, _+_, _-_, _*_, _<_, min}
+use native.Mathlib.Numerals.{add-one}
+use native.Mathlib.Omega.{arith}
+use lib.ListN.{length, getD, drop}
+use lib.Seq.{drop-cons}
+use Rattle.records.specs.Records.{valueFrom, limit}
+
+-- capping the number before the digits changes nothing where the end is capped
+cap : (ds : List ℕ) (m : ℕ) → min (valueFrom m ds) limit ≡ min (valueFrom (min m limit) ds) limit
+unfolding valueFrom
+cap [] m = omega arith
+cap (d ∷ ds) m =
+    let e : min (m * 10 + (d - 48)) limit ≡ min (min m limit * 10 + (d - 48)) limit = omega arith in
+    cap ds (m * 10 + (d - 48)) ∙ ap (λ (k : ℕ). min (valueFrom k ds) limit) e ∙ sym (cap ds (min m limit * 10 + (d - 48)))
+
+-- one digit more
+pub digit-more : (ds : List ℕ) (i n d m : ℕ) → i < length ds → d ≡ getD ds i 0 - 48 → m ≡ min (n * 10 + d) limit
+    → min (valueFrom n (drop i ds)) limit ≡ min (valueFrom m (drop (i + 1) ds)) limit
+unfolding valueFrom
+digit-more ds i n d m l e f =
+    rw (add-one, drop-cons ds i 0, f, e) (cap (drop (suc i) ds) (n * 10 + (getD ds i 0 - 48)))
