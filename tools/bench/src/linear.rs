@@ -1,5 +1,5 @@
-//! Our calls on the pages that give them most to do, at the greatest length and at half of it: linear time shows as a ratio of
-//! about 2.
+//! Our calls on pages and tables of many nodes, at the greatest length and at half of it: linear time shows as a ratio of
+//! about 2, quadratic time as one of about 4.
 use crate::ours::{Reader, CLOSED, SCAN};
 use crate::pages::{self, LIMIT};
 use crate::timing::best;
@@ -72,6 +72,16 @@ fn texts_below_one_tag(len: usize, n: usize) -> Vec<u32> {
     words
 }
 
+/// Another: `n` tags side by side that all open with the page's first bytes, the later ones ending earlier, so that in closing
+/// order each comes before all that were listed.
+fn tags_ending_backwards(len: usize, opened: usize, n: usize) -> Vec<u32> {
+    let mut words = vec![n as u32, 0, len as u32, 8, 8, 0, 0, 0];
+    for handle in 0..n as u32 {
+        words.extend([1, 0, len as u32 - handle, 1, 2, opened as u32, 0, handle]);
+    }
+    words
+}
+
 pub fn report() {
     for (name, page) in PAGES {
         let (long, short) = (page(LIMIT), page(LIMIT / 2));
@@ -90,6 +100,18 @@ pub fn report() {
     half.lend(&texts_below_one_tag(LIMIT, 20_000));
     head(
         "a table that no reading made: texts below one tag",
+        &whole,
+        &half,
+    );
+    calls(&mut whole, &mut half);
+
+    let open = "<p class=a>";
+    let page = filled("a", open, LIMIT);
+    let (mut whole, mut half) = (Reader::new(page.as_bytes()), Reader::new(page.as_bytes()));
+    whole.lend(&tags_ending_backwards(LIMIT, open.len(), 40_000));
+    half.lend(&tags_ending_backwards(LIMIT, open.len(), 20_000));
+    head(
+        "a table that no reading made: tags that end backwards",
         &whole,
         &half,
     );
