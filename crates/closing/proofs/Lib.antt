@@ -1,5 +1,4 @@
 pub mod Rows
-pub mod Moves
 pub mod Cuts
 pub mod Steps
 pub mod Entries

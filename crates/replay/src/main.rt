@@ -316,7 +316,7 @@ fn lend(h: Head, body: &[u8], page: &mut [u8], room: usize, bytes: usize, words:
 }
 
 fn answer_parse(page: &[u8], table: &mut [u32], out: &mut [u8]) -> Place {
-    closing::fill(table, 9);
+    table::fill(table, 9);
     Place::To(ask_parse(page, table, out))
 }
 
@@ -424,7 +424,7 @@ fn answer_words(
         return Place::Bad;
     }
     let part = &mut words[..size];
-    closing::fill(part, 9);
+    table::fill(part, 9);
     let op = h.op;
     match op {
         6 => Place::To(ask_class(page, table, h.a, body, part, out)),

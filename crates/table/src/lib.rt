@@ -107,15 +107,22 @@ pub fn put_head(table: &mut [u32], count: u32, version: u32, len: u32)
     write_head(&mut table[0..HEAD], count, version, len);
 }
 
+// Sets all words to x.
+pub fn fill(words: &mut [u32], x: u32)
+    ensures { λ _. ⌜ now (words .exit) ≡ replicate (length (now (words .entry))) x ⌝ }
+{
+    let mut i = 0;
+    while i < words.len() {
+        words[i] = x;
+        i += 1;
+    }
+}
+
 // Sets all words to zero, as a refusal leaves the table.
 pub fn clear(table: &mut [u32])
     ensures { λ _. ⌜ now (table .exit) ≡ replicate (length (now (table .entry))) 0 ⌝ }
 {
-    let mut i = 0;
-    while i < table.len() {
-        table[i] = 0;
-        i += 1;
-    }
+    fill(table, 0);
 }
 
 // Sets all bytes to zero, as a refusal leaves a buffer of bytes.

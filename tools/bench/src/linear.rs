@@ -7,10 +7,16 @@ use crate::timing::best;
 /// A name, and the page of so many bytes.
 type Heavy = (&'static str, fn(usize) -> String);
 
-const PAGES: [Heavy; 6] = [
+const PAGES: [Heavy; 8] = [
     ("nested `<>`", |n| filled("<>", "", n)),
     ("the most nodes, `<>a`", |n| filled("<>a", "", n)),
     ("execution table", |n| pages::rows(n, true)),
+    ("closed tags with the class, side by side", |n| {
+        filled("<p class=a>x</p>", "", n)
+    }),
+    ("closed tags with the class, nested", |n| {
+        pages::nested(n, "<p class=a>", "</p>")
+    }),
     ("one comment without end", |n| filled("-", "<!--", n)),
     ("attributes without end", |n| filled(" a=b", "<p", n)),
     ("one text", |n| filled("a", "", n)),

@@ -118,14 +118,17 @@ pub fn all() -> Vec<Page> {
             }),
             "b.fill",
         ),
-        other("nested tags, closed", nested(), "div.fill"),
+        other(
+            "nested tags, closed",
+            nested(LIMIT, "<div class=fill>", "</div>"),
+            "div.fill",
+        ),
         other("nested `<>`", "<>".repeat(LIMIT / 2), "x"),
     ]
 }
 
-/// As many tags as fit, one inside the other, all of them closed.
-fn nested() -> String {
-    let (open, close) = ("<div class=fill>", "</div>");
-    let n = LIMIT / (open.len() + close.len());
+/// As many tags as fit into so many bytes, one inside the other, all of them closed.
+pub fn nested(size: usize, open: &str, close: &str) -> String {
+    let n = size / (open.len() + close.len());
     open.repeat(n) + &close.repeat(n)
 }

@@ -1,4 +1,5 @@
 //! Pages of many kinds, and damage done to them and to tables.
+use crate::model::{self, PAGE_LIMIT};
 use crate::random::Random;
 
 /// The bytes of which every short page is made.
@@ -481,6 +482,25 @@ pub fn with_rows(rows: usize, random: &mut Random) -> (Vec<u8>, Vec<u32>) {
             let start = random.below(page.len() + 1) as u32;
             let end = length.min(start + random.below(3) as u32);
             table.extend([2, start, end, 0, 0, 0, parent, handle]);
+        }
+    }
+    (page, table)
+}
+
+/// A page of many tags with classes, and a sound table whose tags end anywhere, in any order.
+pub fn with_ends(random: &mut Random) -> (Vec<u8>, Vec<u32>) {
+    const TAGS: [&str; 4] = ["<p class=c>x</p>", "<p class='c d c'>", "<b>y</b>", "</p>"];
+    let length = 6_000 + random.below(PAGE_LIMIT - 6_000 + 1);
+    let mut page = Vec::new();
+    while page.len() < length {
+        push(&mut page, random.pick(&TAGS));
+    }
+    page.truncate(length);
+    let mut table = model::words_of(length, &model::read(&page));
+    for row in table[8..].chunks_exact_mut(8) {
+        let opened = row[5] as usize;
+        if row[0] == 1 {
+            row[2] = (opened + random.below(length - opened + 1)) as u32;
         }
     }
     (page, table)

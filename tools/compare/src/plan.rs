@@ -28,9 +28,10 @@ pub enum Kind {
     ManyRows,
     ShortSelectors,
     Selectors,
+    Ends,
 }
 
-pub const KINDS: [(Kind, &str); 17] = [
+pub const KINDS: [(Kind, &str); 18] = [
     (Kind::Checked, "the paper's pages"),
     (Kind::CheckedSelectors, "the paper's selectors"),
     (Kind::ShortPages, "every short page"),
@@ -48,6 +49,7 @@ pub const KINDS: [(Kind, &str); 17] = [
     (Kind::ManyRows, "tables of many rows"),
     (Kind::ShortSelectors, "every short selector"),
     (Kind::Selectors, "random selectors"),
+    (Kind::Ends, "tables of tags that end anywhere"),
 ];
 
 /// Inputs of one kind, by their numbers.
@@ -104,6 +106,7 @@ fn size(kind: Kind, pages: u64) -> (u64, u64) {
         Kind::Nested => (rest / 1_000, 50),
         Kind::Tables => (rest * 10 / 100, 2_000),
         Kind::ManyRows => (rest / 30_000, 1),
+        Kind::Ends => (rest / 10_000, 4),
         Kind::ShortSelectors => (
             all_up_to(selectors::ALPHABET.len(), pages * 30 / 100),
             20_000,
@@ -187,6 +190,10 @@ fn input(kind: Kind, number: u64, random: &mut Random) -> Input {
                 _ => 40_000 + random.below(20_000),
             };
             let (page, table) = pages::with_rows(rows, random);
+            Input::Table(page, table)
+        }
+        Kind::Ends => {
+            let (page, table) = pages::with_ends(random);
             Input::Table(page, table)
         }
         Kind::ShortSelectors => {

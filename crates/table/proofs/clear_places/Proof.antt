@@ -1,14 +1,14 @@
--- `table::clear_places` meets its contract: `Cleared` is the invariant.
+-- `table::clear_places` meets its contract: `Filling` is the invariant.
 use borrow.Author.Needs.{needs}
 use native.Mathlib.Omega.{arith}
 use Prim.Native.Nat.{ℕ, _-_}
 use lib.ListN.{length}
-use Rattle.table.proofs.Clearing.{Cleared, one-more, all-clear}
+use Rattle.table.proofs.Filling.{Filling, one-more, all-filled}
 use Rattle.table.proofs.clear_places.Statement.{statement}
 use Rattle.table.proofs.clear_places.Tie as tie
 
 abbrev Inv-loop : tie.InvT-loop
-Inv-loop places₀ i₀ places i = Cleared places₀ places i
+Inv-loop places₀ i₀ places i = Filling 0 places₀ places i
 
 abbrev μ-loop : tie.MeasureT-loop
 μ-loop places₀ i₀ places i = length places₀ - i
@@ -17,7 +17,7 @@ loop-again : tie.Need-loop-again Inv-loop μ-loop
 loop-again c = one-more (c .before .loop .inv) (omega arith)
 
 returns : tie.Need-returns Inv-loop μ-loop
-returns c = all-clear (c .before .loop .inv) (omega arith)
+returns c = all-filled (c .before .loop .inv) (omega arith)
 
 pub clear-places-spec : {M : Type 1} → statement M
 clear-places-spec =
