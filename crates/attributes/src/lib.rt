@@ -1,7 +1,7 @@
 // What one tag holds for several attribute names, by one reading of its attributes. The names stand in one text, `names`, each
 // from the end of the one before up to its place in `ends`. Each has three words: which of the three held (0 absent, 1 without
 // a value, 2 with a value), and where a value starts and ends. An attribute finds the one name that it may have by a table of 256
-// slots, which a caller makes once, by `slot_table`, and lends down.
+// slots, which a caller fills once, by `fill_slots`, and lends down.
 use rules::Attribute;
 use rules::Held;
 use rules::Node;
@@ -10,7 +10,7 @@ use tag::Next;
 ghost use mathlib.Core.Path.{_≡_};
 ghost use mathlib.Core.List.{[], _∷_};
 ghost use Prim.Native.Nat.{suc, _*_, _≤_, _<_};
-ghost use lib.ListN.{length, getD};
+ghost use lib.ListN.{length, getD, replicate};
 ghost use Rattle.rules.specs.Lookup.{Inside, lookup, lookupFrom};
 ghost use Rattle.rules.specs.Refusals.{pageLimit, heldNumbers};
 ghost use Rattle.scan.specs.Marks.{Marked, whiteIn};
@@ -132,18 +132,17 @@ fn slot_with(c: u8, j: usize) -> u8
     (j + 1) as u8
 }
 
-// The slots of all names, for a caller to lend.
-pub fn slot_table(names: &[u8], ends: &[usize]) -> [u8; 256]
-    ensures { λ r. ⌜ Slotted (now (names .entry)) (now (ends .entry)) (length (now (ends .entry))) r ⌝ }
+// Fills the slots of all names, which are lent all zero. A table that is returned would be copied.
+pub fn fill_slots(slots: &mut [u8; 256], names: &[u8], ends: &[usize])
+    requires { ⌜ now slots ≡ replicate 256 0 ⌝ }
+    ensures { λ _. ⌜ Slotted (now (names .entry)) (now (ends .entry)) (length (now (ends .entry))) (now (slots .exit)) ⌝ }
 {
-    let mut slots = [0u8; 256];
     let mut j = 0;
     while j < ends.len() {
         let at = slot_of(name_at(names, ends, j));
         slots[at] = slot_with(slots[at], j);
         j += 1;
     }
-    slots
 }
 
 // Notes the attribute for each name. Its slot says that it is no name's, or at most one's; or it is compared with all.

@@ -166,7 +166,8 @@ fn put_names(
         ⌝ }
 {
     let t = scan::mark_table();
-    let slots = attributes::slot_table(names, ends);
+    let mut slots = [0u8; 256];
+    attributes::fill_slots(&mut slots, names, ends);
     let mut at = 0;
     let mut i = 0;
     while i < handles.len() {

@@ -2,7 +2,7 @@
 //! about 2, quadratic time as one of about 4.
 use crate::ours::{Reader, CLOSED, SCAN};
 use crate::pages::{self, LIMIT};
-use crate::timing::best;
+use crate::timing::{best, micros};
 
 /// A name, and the page of so many bytes.
 type Heavy = (&'static str, fn(usize) -> String);
@@ -43,9 +43,9 @@ const CALLS: [(&str, fn(&mut Reader)); 7] = [
 fn line(what: &str, call: fn(&mut Reader), whole: &mut Reader, half: &mut Reader) {
     let (long, short) = best(|| call(whole), || call(half));
     println!(
-        "| {what} | {:.2} | {:.2} | {:.2} |",
-        long / 1e3,
-        short / 1e3,
+        "| {what} | {} | {} | {:.2} |",
+        micros(long),
+        micros(short),
         long / short
     );
 }

@@ -6,7 +6,7 @@ mod theirs;
 mod timing;
 
 use pages::Page;
-use timing::best;
+use timing::{best, micros};
 
 /// tl descends by recursion, as deep as a page nests.
 const STACK: usize = 4 << 30;
@@ -124,10 +124,10 @@ fn report(page: &Page) {
     }
     for r in rows {
         println!(
-            "| {} | {:.2} | {:.2} | {:.2} |",
+            "| {} | {} | {} | {:.2} |",
             r.what,
-            r.ours / 1e3,
-            r.tl / 1e3,
+            micros(r.ours),
+            micros(r.tl),
             r.tl / r.ours
         );
     }

@@ -38,3 +38,13 @@ pub fn best(mut one: impl FnMut(), mut other: impl FnMut()) -> (f64, f64) {
         (a.min(turn(&mut one)), b.min(turn(&mut other)))
     })
 }
+
+/// A time in microseconds, with three digits that count.
+pub fn micros(nanoseconds: f64) -> String {
+    let us = nanoseconds / 1e3;
+    let places = [100.0, 10.0, 1.0, 0.1]
+        .iter()
+        .filter(|&&least| us < least)
+        .count();
+    format!("{us:.places$}")
+}
