@@ -1,11 +1,12 @@
 -- What is known of a list of handles once refusals 1, 3 and 4 are past, and what is promised of the buffers.
-use mathlib.Core.Bool.{Bool, false, _||_}
+use mathlib.Core.Bool.{Bool, false, _&&_, _||_}
 use mathlib.Core.Path.{_≡_}
 use mathlib.Core.List.{List, []}
-use Prim.Native.Nat.{ℕ, _+_, _≤_, _<_}
-use lib.Dec.{ltb}
+use Prim.Native.Nat.{ℕ, _+_, _*_, _/_, _%_, _≤_, _<_}
+use lib.Dec.{eqb, ltb}
 use lib.ListN.{length, getD}
 use Rattle.rules.specs.Scan.{pick}
+use Rattle.rules.specs.Sound.{countOf}
 use Rattle.rules.specs.Text.{textAt}
 use Rattle.rules.specs.Buffers.{Wrote}
 use Rattle.rules.specs.Refusals.{Sound, asking, notATag, filledBy}
@@ -59,11 +60,20 @@ pub record Puts (s b : List ℕ) (at : ℕ) (r : Put) (out : List ℕ) : Type 0 
 abbrev pub NoText : List ℕ → List ℕ → ℕ → ℕ → Type 0
 NoText p ws a e = (j : ℕ) → a ≤ j → j < e → textAt p ws j ≡ []
 
+-- the rows from k up to r can be passed over
+abbrev pub Passes : List ℕ → List ℕ → ℕ → ℕ → Type 0
+Passes p ws k r = (k ≤ r) × (r ≤ countOf ws) × NoText p ws k r
+
+-- n places, one for every `step`-th row, are as many as count rows want
+pub record Covers (count step n : ℕ) : Type 0 where
+  pub some : 0 < step
+  pub below : step * n < count + step
+
 -- where to look for text from row k on: what is filled in for k, or k itself
-abbrev pub nextText : List ℕ → ℕ → ℕ
-nextText skip k = pick (ltb k (length skip)) (getD skip k 0) k
+abbrev pub nextText : List ℕ → ℕ → ℕ → ℕ
+nextText skip step k = pick (eqb (k % step) 0 && ltb (k / step) (length skip)) (getD skip (k / step) 0) k
 
 -- what is filled in leaves no text out
-pub record Skips (p ws skip : List ℕ) : Type 0 where
-  pub later : (k : ℕ) → k < length skip → k ≤ getD skip k 0
-  pub none : (k : ℕ) → k < length skip → NoText p ws k (getD skip k 0)
+pub record Skips (p ws : List ℕ) (step : ℕ) (skip : List ℕ) : Type 0 where
+  pub some : 0 < step
+  pub passes : (j : ℕ) → j < length skip → Passes p ws (step * j) (getD skip j 0)

@@ -17,7 +17,7 @@ ghost use Rattle.rules.specs.Buffers.{Wrote};
 ghost use Rattle.rules.specs.Batch.{some, attributesFound, attributesAnswer, attributesBuffer, namesFound, namesAnswer, namesBuffer, textsAnswer, textsBuffer, endsBuffer};
 ghost use Rattle.rules.specs.Lookup.{Inside};
 ghost use Rattle.calls.specs.Calls.{Filled};
-ghost use Rattle.batch.specs.Batch.{tagsChecked, Tags, unless, FilledBoth, TextsLeft, Skips, nextText, Puts};
+ghost use Rattle.batch.specs.Batch.{tagsChecked, Tags, unless, FilledBoth, TextsLeft, Passes, Covers, Skips, nextText, Puts};
 
 // The most rows that a page has, and rows enough for a short one, for which less is cleared.
 const ROWS: usize = 43691;
@@ -247,32 +247,59 @@ fn refuse_texts(ends: &mut [usize], out: &mut [u8], why: Refusal) -> Counted
     Counted::Refused(why)
 }
 
-// ---- `skip` holds for each of the first rows the lowest row from it on that has text: tags that lie in each other would else be
+// ---- `skip` holds for every `step`-th row the lowest row from it on that has text: tags that lie in each other would else be
 // walked through once for each of them
 
-// Fills `skip`, from its last row down.
-fn fill_skips(page: &[u8], table: &[u32], skip: &mut [u32])
-    requires { ⌜ (sound (length (now page)) (now table) ≡ true) × (length (now skip) ≤ countOf (now table)) ⌝ }
-    ensures { λ _. ⌜ Skips (now (page .entry)) (now (table .entry)) (now (skip .exit)) ⌝ }
+// The lowest row of those below `to` and from `from` on that has text. Else it is `next`, which is the lowest from `to` on.
+fn lowest_text(page: &[u8], table: &[u32], from: usize, to: usize, next: usize) -> usize
+    requires { ⌜ (sound (length (now page)) (now table) ≡ true) × (from ≤ to) × Passes (now page) (now table) to next ⌝ }
+    ensures { λ r. ⌜ Passes (now (page .entry)) (now (table .entry)) from r ⌝ }
 {
-    let mut next = skip.len();
-    let mut k = skip.len();
-    while 0 < k {
+    let mut lowest = next;
+    let mut k = to;
+    while from < k {
         k -= 1;
         let n = table::row_at(table, k);
         if tag::text_size(page, n) != 0 {
-            next = k;
+            lowest = k;
         }
-        skip[k] = next as u32;
+    }
+    lowest
+}
+
+// Fills `skip`, from the last row down.
+fn fill_skips(page: &[u8], table: &[u32], step: usize, skip: &mut [u32])
+    requires { ⌜ (sound (length (now page)) (now table) ≡ true) × Covers (countOf (now table)) step (length (now skip)) ⌝ }
+    ensures { λ _. ⌜ Skips (now (page .entry)) (now (table .entry)) step (now (skip .exit)) ⌝ }
+{
+    let count = table[0] as usize;
+    let mut next = count;
+    let mut to = count;
+    let mut j = skip.len();
+    while 0 < j {
+        j -= 1;
+        let from = step * j;
+        next = lowest_text(page, table, from, to, next);
+        skip[j] = next as u32;
+        to = from;
     }
 }
 
-// Where to look for text from row k on: beyond the filled rows, in each.
-fn next_text(skip: &[u32], k: usize) -> usize
-    ensures { λ r. ⌜ r ≡ nextText (now (skip .entry)) k ⌝ }
+// Where to look for text from row k on: between the rows that are filled in, in each.
+fn next_text(skip: &[u32], step: usize, k: usize) -> usize
+    requires { ⌜ 0 < step ⌝ }
+    ensures { λ r. ⌜ r ≡ nextText (now (skip .entry)) step k ⌝ }
 {
-    if k < skip.len() {
-        return skip[k] as usize;
+    // every row is filled in: a division would cost more than the walk
+    if step == 1 {
+        if k < skip.len() {
+            return skip[k] as usize;
+        }
+        return k;
+    }
+    let j = k / step;
+    if (k % step == 0) & (j < skip.len()) {
+        return skip[j] as usize;
     }
     k
 }
@@ -284,15 +311,23 @@ enum Put {
 }
 
 // Writes the inner text of h from `at` on.
-fn put_text(page: &[u8], table: &[u32], skip: &[u32], h: usize, out: &mut [u8], at: usize) -> Put
-    requires { ⌜ (sound (length (now page)) (now table) ≡ true) × Skips (now page) (now table) (now skip) ⌝ }
+fn put_text(
+    page: &[u8],
+    table: &[u32],
+    skip: &[u32],
+    step: usize,
+    h: usize,
+    out: &mut [u8],
+    at: usize,
+) -> Put
+    requires { ⌜ (sound (length (now page)) (now table) ≡ true) × Skips (now page) (now table) step (now skip) ⌝ }
     requires { ⌜ (h < countOf (now table)) × (at ≤ length (now out)) ⌝ }
     ensures { λ r. ⌜ Puts (innerText (now (page .entry)) (now (table .entry)) h) (now (out .entry)) at r (now (out .exit)) ⌝ }
 {
     let n = table::row_at(table, h);
     let last = n.last as usize;
     let mut i = at;
-    let mut k = next_text(skip, h + 1);
+    let mut k = next_text(skip, step, h + 1);
     while k <= last {
         let n = table::row_at(table, k);
         let size = tag::text_size(page, n);
@@ -300,7 +335,7 @@ fn put_text(page: &[u8], table: &[u32], skip: &[u32], h: usize, out: &mut [u8], 
             return Put::Short;
         }
         i = tag::put_text(page, n, out, i);
-        k = next_text(skip, k + 1);
+        k = next_text(skip, step, k + 1);
     }
     Put::Until(i)
 }
@@ -310,11 +345,12 @@ fn put_texts(
     page: &[u8],
     table: &[u32],
     skip: &[u32],
+    step: usize,
     handles: &[u32],
     ends: &mut [usize],
     out: &mut [u8],
 ) -> Counted
-    requires { ⌜ Tags (now page) (now table) (now handles) × Skips (now page) (now table) (now skip) ⌝ }
+    requires { ⌜ Tags (now page) (now table) (now handles) × Skips (now page) (now table) step (now skip) ⌝ }
     requires { ⌜ length (now handles) ≤ length (now ends) ⌝ }
     ensures { λ r. ⌜
         TextsLeft (now (page .entry)) (now (table .entry)) (now (handles .entry)) (now (ends .entry)) (now (out .entry))
@@ -325,7 +361,7 @@ fn put_texts(
     let mut i = 0;
     while i < handles.len() {
         let h = handles[i] as usize;
-        let Put::Until(end) = put_text(page, table, skip, h, out, at) else {
+        let Put::Until(end) = put_text(page, table, skip, step, h, out, at) else {
             return refuse_texts(ends, out, Refusal::BufferTooShort);
         };
         ends[i] = end;
@@ -340,29 +376,20 @@ fn skip_texts(
     page: &[u8],
     table: &[u32],
     skip: &mut [u32],
+    step: usize,
     handles: &[u32],
     ends: &mut [usize],
     out: &mut [u8],
 ) -> Counted
-    requires { ⌜ Tags (now page) (now table) (now handles) × (length (now skip) ≤ countOf (now table)) ⌝ }
+    requires { ⌜ Tags (now page) (now table) (now handles) × Covers (countOf (now table)) step (length (now skip)) ⌝ }
     requires { ⌜ length (now handles) ≤ length (now ends) ⌝ }
     ensures { λ r. ⌜
         TextsLeft (now (page .entry)) (now (table .entry)) (now (handles .entry)) (now (ends .entry)) (now (out .entry))
         false r (now (ends .exit)) (now (out .exit))
         ⌝ }
 {
-    fill_skips(page, table, skip);
-    put_texts(page, table, skip, handles, ends, out)
-}
-
-// The lower of two numbers.
-fn lower(a: usize, b: usize) -> usize
-    ensures { λ r. ⌜ (r ≤ a) × (r ≤ b) ⌝ }
-{
-    if a < b {
-        return a;
-    }
-    b
+    fill_skips(page, table, step, skip);
+    put_texts(page, table, skip, step, handles, ends, out)
 }
 
 // Whether the rows below the handles are no more than all rows: each can then be walked through without `skip`. The answer is
@@ -386,7 +413,7 @@ fn few_below(page: &[u8], table: &[u32], handles: &[u32], count: usize) -> bool
     true
 }
 
-// The same, with a `skip` if it is needed, for all rows or for as many as a page has.
+// The same, with a `skip` if it is needed: for each row, or for every so many where there are more rows than a page has.
 fn walk_texts(
     page: &[u8],
     table: &[u32],
@@ -402,15 +429,16 @@ fn walk_texts(
 {
     let count = table[0] as usize;
     if few_below(page, table, handles, count) {
-        return put_texts(page, table, &table[0..0], handles, ends, out);
+        return put_texts(page, table, &table[0..0], 1, handles, ends, out);
     }
     if count <= FEW {
         let mut skip = [0u32; FEW];
-        return skip_texts(page, table, &mut skip[0..count], handles, ends, out);
+        return skip_texts(page, table, &mut skip[0..count], 1, handles, ends, out);
     }
     let mut skip = [0u32; ROWS];
-    let rows = lower(count, ROWS);
-    skip_texts(page, table, &mut skip[0..rows], handles, ends, out)
+    let step = (count - 1) / ROWS + 1;
+    let filled = (count - 1) / step + 1;
+    skip_texts(page, table, &mut skip[0..filled], step, handles, ends, out)
 }
 
 // The inner texts of tags, or refusal 7.

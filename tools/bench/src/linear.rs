@@ -1,6 +1,6 @@
 //! Our calls on pages and tables of many nodes, at the greatest length and at half of it: linear time shows as a ratio of
 //! about 2, quadratic time as one of about 4.
-use crate::ours::{Reader, CLOSED, SCAN};
+use crate::ours::{Names, Reader, CLOSED, SCAN};
 use crate::pages::{self, LIMIT};
 use crate::timing::{best, micros};
 
@@ -40,7 +40,7 @@ const CALLS: [(&str, fn(&mut Reader)); 7] = [
     ("query of four pieces", |r| r.query("a,.b,#c,[d]")),
 ];
 
-fn line(what: &str, call: fn(&mut Reader), whole: &mut Reader, half: &mut Reader) {
+fn line(what: &str, call: impl Fn(&mut Reader), whole: &mut Reader, half: &mut Reader) {
     let (long, short) = best(|| call(whole), || call(half));
     println!(
         "| {what} | {} | {} | {:.2} |",
@@ -59,6 +59,9 @@ fn head(name: &str, whole: &Reader, half: &Reader) {
     println!("| | µs | at half, µs | ratio |\n|---|---|---|---|");
 }
 
+/// Where the texts of all tags are more bytes than this, they are not asked: writing them takes the time.
+const BYTES: usize = 16 * LIMIT;
+
 fn calls(whole: &mut Reader, half: &mut Reader) {
     let tags = whole.is_tag(0) && half.is_tag(0);
     for (what, call) in CALLS {
@@ -66,6 +69,14 @@ fn calls(whole: &mut Reader, half: &mut Reader) {
             line(what, call, whole, half);
         }
     }
+    whole.find_tags();
+    half.find_tags();
+    if whole.text_bytes() <= BYTES {
+        line("texts of all tags", |r| r.texts(), whole, half);
+    }
+    let names = Names::new(&["a", "b", "class", "id"]);
+    let ask = |r: &mut Reader| r.attributes_for_names(&names);
+    line("four attributes of all tags", ask, whole, half);
 }
 
 /// A sound table that no reading made: one tag over `n` texts of a byte.
@@ -88,6 +99,32 @@ fn tags_ending_backwards(len: usize, opened: usize, n: usize) -> Vec<u32> {
     words
 }
 
+/// A third, of more rows than any page has: `n` tags, each in the one before it, over `n` texts without a byte.
+fn tags_over_no_text(len: usize, n: usize) -> Vec<u32> {
+    let rows = 2 * n as u32;
+    let mut words = vec![rows, 0, len as u32, 8, 8, 0, 0, 0];
+    for handle in 0..n as u32 {
+        words.extend([1, 0, len as u32, 1, 2, 3, handle, rows - 1]);
+    }
+    for handle in n as u32..rows {
+        words.extend([2, 3, 3, 0, 0, 0, n as u32, handle]);
+    }
+    words
+}
+
+/// Asks of a page with two tables that no reading made.
+fn foreign(name: &str, page: &str, whole_table: Vec<u32>, half_table: Vec<u32>) {
+    let (mut whole, mut half) = (Reader::new(page.as_bytes()), Reader::new(page.as_bytes()));
+    whole.lend(whole_table);
+    half.lend(half_table);
+    head(
+        &format!("a table that no reading made: {name}"),
+        &whole,
+        &half,
+    );
+    calls(&mut whole, &mut half);
+}
+
 pub fn report() {
     for (name, page) in PAGES {
         let (long, short) = (page(LIMIT), page(LIMIT / 2));
@@ -101,25 +138,23 @@ pub fn report() {
         }
     }
     let page = "a".repeat(LIMIT);
-    let (mut whole, mut half) = (Reader::new(page.as_bytes()), Reader::new(page.as_bytes()));
-    whole.lend(&texts_below_one_tag(LIMIT, 40_000));
-    half.lend(&texts_below_one_tag(LIMIT, 20_000));
-    head(
-        "a table that no reading made: texts below one tag",
-        &whole,
-        &half,
+    foreign(
+        "texts below one tag",
+        &page,
+        texts_below_one_tag(LIMIT, 40_000),
+        texts_below_one_tag(LIMIT, 20_000),
     );
-    calls(&mut whole, &mut half);
-
+    foreign(
+        "tags in each other over texts without a byte",
+        &page,
+        tags_over_no_text(LIMIT, 100_000),
+        tags_over_no_text(LIMIT, 50_000),
+    );
     let open = "<p class=a>";
-    let page = filled("a", open, LIMIT);
-    let (mut whole, mut half) = (Reader::new(page.as_bytes()), Reader::new(page.as_bytes()));
-    whole.lend(&tags_ending_backwards(LIMIT, open.len(), 40_000));
-    half.lend(&tags_ending_backwards(LIMIT, open.len(), 20_000));
-    head(
-        "a table that no reading made: tags that end backwards",
-        &whole,
-        &half,
+    foreign(
+        "tags that end backwards",
+        &filled("a", open, LIMIT),
+        tags_ending_backwards(LIMIT, open.len(), 40_000),
+        tags_ending_backwards(LIMIT, open.len(), 20_000),
     );
-    calls(&mut whole, &mut half);
 }

@@ -216,9 +216,27 @@ impl<'a> Reader<'a> {
         handle < self.nodes() && self.table[8 + 8 * handle] == 1
     }
 
-    /// Takes the words as the page's table.
-    pub fn lend(&mut self, words: &[u32]) {
-        self.table[..words.len()].copy_from_slice(words);
+    /// Takes the words as the page's table, and makes room for finds in all its rows.
+    pub fn lend(&mut self, words: Vec<u32>) {
+        self.table = words;
+        let rows = self.nodes();
+        self.finds.resize(rows, 0);
+        self.answers.resize(12 * rows, 0);
+        self.ends.resize(rows, 0);
+    }
+
+    /// Takes all tags as what was found.
+    pub fn find_tags(&mut self) {
+        let tags = (0..self.nodes()).filter(|&handle| self.is_tag(handle));
+        let tags: Vec<u32> = tags.map(|handle| handle as u32).collect();
+        self.finds[..tags.len()].copy_from_slice(&tags);
+        self.found = tags.len();
+    }
+
+    /// How many bytes the texts of what was found have together.
+    pub fn text_bytes(&mut self) -> usize {
+        self.texts();
+        self.ends[..self.found].last().copied().unwrap_or(0)
     }
 
     /// The text of a tag.

@@ -15,10 +15,10 @@ use Rattle.batch.proofs.put_text.Statement.{statement}
 use Rattle.batch.proofs.put_text.Tie as tie
 
 abbrev Inv-loop : tie.InvT-loop
-Inv-loop page table skip h out₀ at last i₀ k₀ out i k = Fitting out₀ at (innerText page table h) out i (textFrom page table h k)
+Inv-loop page table skip step h out₀ at last i₀ k₀ out i k = Fitting out₀ at (innerText page table h) out i (textFrom page table h k)
 
 abbrev μ-loop : tie.MeasureT-loop
-μ-loop page table skip h out₀ at last i₀ k₀ out i k = suc last - k
+μ-loop page table skip step h out₀ at last i₀ k₀ out i k = suc last - k
 
 row-at-requires : tie.Need-row-at-requires Inv-loop μ-loop
 row-at-requires c κs =
@@ -67,7 +67,7 @@ returns c =
     let l = c .before .before .before .before .loop in
     let w = walk p ws (s .pre .0 .0) (s .pre .1 .0) (c .before .before .before .before .before .before .before .row-at .ensures) in
     let cut = next-row p ws (s .pre .0 .1) (a .h) (omega (arith, w .top, c .before .before .before .loop-test .taken)) (c .before .before .row-at2 .ensures) refl in
-    let short = fitting-short (l .inv) (textOf p (c .before .before .row-at2 .result)) (textFrom p ws (a .h) (nextText (a .skip .now) (l .k + 1))) cut (omega (arith, c .before .text-size .ensures .is, c .if1 .taken)) in
+    let short = fitting-short (l .inv) (textOf p (c .before .before .row-at2 .result)) (textFrom p ws (a .h) (nextText (a .skip .now) (a .step) (l .k + 1))) cut (omega (arith, c .before .text-size .ensures .is, c .if1 .taken)) in
     puts-short (innerText p ws (a .h)) (a .out .now) (a .at) (l .inv .size) short
 
 put-text-requires : tie.Need-put-text-requires Inv-loop μ-loop
@@ -84,6 +84,9 @@ add-next-text-2 c =
     let a = s .args in
     let w = walk (a .page .now) (a .table .now) (s .pre .0 .0) (s .pre .1 .0) (c .before .before .before .before .before .before .before .before .before .before .before .row-at .ensures) in
     omega (arith, w .count, c .before .before .before .before .before .before .before .before .before .before .before .before .before .before .shared-slice-known2 .given 0, c .before .before .before .before .before .before .before .loop-test .taken)
+
+next-text-requires-2 : tie.Need-next-text-requires-2 Inv-loop μ-loop
+next-text-requires-2 c κs = c .before .before .before .before .before .before .before .before .before .before .before .before .before .before .before .before .pre .0 .1 .some
 
 loop-less : tie.Need-loop-less Inv-loop μ-loop
 loop-less c =
@@ -121,4 +124,4 @@ put-text-spec =
     tie.close
     (tie.spec Inv-loop μ-loop row-at-requires (λ c. search needs) add-next-text (λ c κs. search needs) loop-holds
     row-at-requires-2 text-size-requires sub-if1 same-length returns put-text-requires add-next-text-2
-    (λ c κs. search needs) loop-less loop-again same-length-2 returns-2)
+    next-text-requires-2 loop-less loop-again same-length-2 returns-2)

@@ -14,11 +14,11 @@ use Rattle.batch.proofs.put_texts.Statement.{statement}
 use Rattle.batch.proofs.put_texts.Tie as tie
 
 abbrev Inv-loop : tie.InvT-loop
-Inv-loop page table skip handles ends₀ out₀ at₀ i₀ ends out at i =
+Inv-loop page table skip step handles ends₀ out₀ at₀ i₀ ends out at i =
     (i ≤ length handles) × Texts (innerText page table) handles ends₀ out₀ i at ends out
 
 abbrev μ-loop : tie.MeasureT-loop
-μ-loop page table skip handles ends₀ out₀ at₀ i₀ ends out at i = length handles - i
+μ-loop page table skip step handles ends₀ out₀ at₀ i₀ ends out at i = length handles - i
 
 loop-holds : tie.Need-loop-holds Inv-loop μ-loop
 loop-holds c =
