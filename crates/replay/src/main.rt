@@ -12,7 +12,8 @@
 //   13 N B K  the attributes of each tag for K names: K numbers like the handles, where the names end, and their text
 // The list in the file stdin beside src/, and in stdout what is to be printed for it, were recorded by tools/compare/run
 // --record. Accepted questions to a page have tl 0.7.8's own answers, those to a list of handles one tag after the other. The
-// words of a table are a model's, once tl's nodes agree with it; refusals, and what a buffer holds, follow the rules.
+// words of a table are a model's, once tl's nodes agree with it; refusals, what a buffer holds, and the answers about a table that
+// was changed follow the rules.
 use records::Head;
 use records::Place;
 use records::Record;

@@ -2,8 +2,8 @@
 //! crates/replay/src/main.rt has the form of both.
 //!
 //! Each answer to an accepted question about a page is tl's, of a list of handles tl's for one tag after the other. tl keeps no
-//! table, so the words of one are the model's, once tl's nodes and the model's are the same. Refusals, and what a buffer holds
-//! after a call, follow the paper.
+//! table, so the words of one are the model's, once tl's nodes and the model's are the same. Refusals, what a buffer holds after
+//! a call, and what is answered about a table that no reading made follow the paper.
 mod lists;
 
 use crate::asks::Asks;
@@ -308,6 +308,40 @@ fn all_still_asked(to: &mut Recording, rows: usize) {
     to.rooms(|room| [8, 0, room, 0], b"*", "query", 1, &all);
 }
 
+/// Tables whose tags end in another order than a reading's, or all at one place: the answers in the closed manner are the
+/// model's. The page is long, so that the ends lie far apart.
+fn ends_in_other_orders(to: &mut Recording) {
+    const TIMES: usize = 9;
+    let open = b"<p id=i class='c d c'>";
+    let text = [&open[..], &[b'x'; 3000], b"</p>"].concat();
+    let page = text.repeat(TIMES);
+    let rows = model::read(&page).rows.len();
+    let mut table = to.page(&text, TIMES, 8 + 8 * rows);
+    // the end of a tag that opens at a place, one of those in the page
+    let orders: [fn(usize, usize, usize) -> usize; 3] = [
+        |last, i, _| last - 340 * i,
+        |last, _, _| last,
+        |last, i, opened| opened + 1 + (7919 * i + 5000) % (last - opened),
+    ];
+    for order in orders {
+        let tags = (0..rows).filter(|handle| handle % 2 == 0);
+        for (i, handle) in tags.enumerate() {
+            let word = 8 + 8 * handle + 2;
+            let end = order(page.len(), i, text.len() * i + open.len());
+            table[word] = end as u32;
+            to.word(word, end);
+        }
+        let reading = model::reading_of(page.len(), &table).expect("a sound table");
+        let asked = Asked::new(&page, &reading.rows);
+        for class in [&b"c"[..], b"d"] {
+            let found = Ok(asked.by_class(Manner::Closed, class, model::PAPER));
+            to.rooms(|room| [6, 1, room, 0], class, "class", 1, &found);
+        }
+        let handle = asked.by_id(Manner::Closed, b"i").expect("a tag has it");
+        to.record([5, 1, 0, 0], b"i", "id", &[0, 1, handle]);
+    }
+}
+
 fn random_pages(to: &mut Recording, seed: u64) {
     let mut kept = 0;
     for index in 0.. {
@@ -350,6 +384,7 @@ pub fn record(folder: &Path, seed: u64) -> io::Result<()> {
     limits(&mut to);
     damaged_tables(&mut to);
     random_pages(&mut to, seed);
+    ends_in_other_orders(&mut to);
     writeln!(to.printed, "records {}", to.records).expect("a string takes it");
     fs::write(folder.join("stdin"), &to.asked)?;
     fs::write(folder.join("stdout"), &to.printed)
