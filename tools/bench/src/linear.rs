@@ -112,6 +112,15 @@ fn tags_over_no_text(len: usize, n: usize) -> Vec<u32> {
     words
 }
 
+/// A fourth: `n` tags side by side, the opening of each the whole page.
+fn tags_over_the_page(len: usize, n: usize) -> Vec<u32> {
+    let mut words = vec![n as u32, 0, len as u32, 8, 8, 0, 0, 0];
+    for handle in 0..n as u32 {
+        words.extend([1, 0, len as u32, 1, 2, len as u32, 0, handle]);
+    }
+    words
+}
+
 /// Asks of a page with two tables that no reading made.
 fn foreign(name: &str, page: &str, whole_table: Vec<u32>, half_table: Vec<u32>) {
     let (mut whole, mut half) = (Reader::new(page.as_bytes()), Reader::new(page.as_bytes()));
@@ -156,5 +165,11 @@ pub fn report() {
         &filled("a", open, LIMIT),
         tags_ending_backwards(LIMIT, open.len(), 40_000),
         tags_ending_backwards(LIMIT, open.len(), 20_000),
+    );
+    foreign(
+        "tags that all have the whole page as their opening",
+        &filled(" a=b", "<p", LIMIT),
+        tags_over_the_page(LIMIT, 200),
+        tags_over_the_page(LIMIT, 100),
     );
 }
