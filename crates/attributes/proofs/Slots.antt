@@ -5,12 +5,10 @@ use mathlib.Core.List.{List, [], _∷_}
 use Prim.Native.Nat.{ℕ, zero, suc, _+_, _-_, _%_, _≤_, _<_}
 use native.Mathlib.Decide.{ℕ-discrete}
 use native.Mathlib.Omega.{arith}
-use borrow.Author.Tests.{eqb-true}
-use lib.Dec.{eqb}
 use lib.ListN.{length, getD, set, replicate, length-set}
 use lib.Seq.{getD-set-same, getD-set-other}
-use Rattle.rules.specs.Scan.{agree, same}
-use Rattle.rules.proofs.Sound.{and-left, and-right}
+use Rattle.rules.specs.Scan.{same}
+use Rattle.rules.proofs.Names.{same-is}
 use Rattle.attributes.specs.Slots.{nameAt, slotOf, many, Slotted}
 
 -- a name after the first starts at the end of the one before
@@ -32,16 +30,6 @@ zeros : (n i : ℕ) → _≡_ {A = ℕ} (getD (replicate n 0) i 0) 0
 zeros zero i = refl
 zeros (suc n) zero = refl
 zeros (suc n) (suc i) = zeros n i
-
-same-is : (x y : List ℕ) → same x y ≡ true → x ≡ y
-unfolding agree
-same-is [] [] e = refl
-same-is [] (b ∷ y) e = cc
-same-is (a ∷ x) [] e = cc
-same-is (a ∷ x) (b ∷ y) e =
-    let h : a ≡ b = eqb-true a b (and-left (eqb a b) (same x y) e) in
-    let t : x ≡ y = same-is x y (and-right (eqb a b) (same x y) e) in
-    cc
 
 module _ (s es : List ℕ) where
   pub slotted-none : Slotted s es 0 (replicate 256 0)

@@ -1,4 +1,5 @@
 pub mod Cut
+pub mod Opening
 pub mod CutItem
 pub mod CutLexer
 pub mod Nodes

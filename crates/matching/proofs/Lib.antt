@@ -1,3 +1,4 @@
 pub mod Values
+pub mod Openings
 pub mod Rows
 pub mod Settling

@@ -6,9 +6,12 @@ use rules::Node;
 use rules::Simple;
 use rules::Span;
 ghost use mathlib.Core.Path.{_≡_};
+ghost use mathlib.Core.Bool.{false};
 ghost use Prim.Native.Nat.{_*_, _≤_, _<_};
 ghost use lib.ListN.{length};
-ghost use Rattle.rules.specs.Lookup.{answer};
+ghost use Rattle.rules.specs.Scan.{part, same};
+ghost use Rattle.rules.specs.Words.{Within, asciiWhite, hasWord};
+ghost use Rattle.rules.specs.Lookup.{answer, idName, className};
 ghost use Rattle.rules.specs.Finds.{valued, nodeHasId, nodeClassTimes};
 ghost use Rattle.rules.specs.Query.{nameOf, textOf, present, tagFits, otherFits, nodeFits, meaning};
 ghost use Rattle.scan.specs.Marks.{Marked, whiteIn};
@@ -88,6 +91,56 @@ fn has_attribute(t: &[u8; 256], page: &[u8], n: Node, name: &[u8]) -> bool
     }
 }
 
+// Whether k may stand in the tag's opening. Where it does not, no value there fits, whatever the comparison, and the attributes need
+// not be read.
+fn may_have(page: &[u8], n: Node, k: &[u8]) -> bool
+    requires { ⌜ (n .stop < n .opened) × (n .opened ≤ length (now page)) ⌝ }
+    ensures { λ r. ⌜ (r ≡ false → Within (now (k .entry)) (part (now (page .entry)) (n .stop) (n .opened)) → ⊥) ⌝ }
+{
+    let stop = n.stop as usize;
+    let opened = n.opened as usize;
+    if opened - stop < k.len() {
+        return false;
+    }
+    scan::may_hold(page, stop, opened, k)
+}
+
+// The same for a class. An opening with just the room for ` class=k>` most likely is that, and is read at once.
+fn may_have_class(page: &[u8], n: Node, k: &[u8]) -> bool
+    requires { ⌜ (n .stop < n .opened) × (n .opened ≤ length (now page)) ⌝ }
+    ensures { λ r. ⌜ (r ≡ false → Within (now (k .entry)) (part (now (page .entry)) (n .stop) (n .opened)) → ⊥) ⌝ }
+{
+    let room = (n.opened - n.stop) as usize;
+    if 8 < room {
+        if room - 8 == k.len() {
+            return true;
+        }
+    }
+    may_have(page, n, k)
+}
+
+// For a tag: it has that id.
+fn tag_has_id(t: &[u8; 256], page: &[u8], n: Node, k: &[u8]) -> bool
+    requires { ⌜ Marked (now t) × (n .stop < n .opened) × (n .opened ≤ length (now page)) ⌝ }
+    ensures { λ r. ⌜ r ≡ valued (λ v. same v (now (k .entry))) (answer (whiteIn (now (t .entry))) (now (page .entry)) n idName) ⌝ }
+{
+    if !may_have(page, n, k) {
+        return false;
+    }
+    check_attribute(t, page, n, b"id", k, Compare::Equal)
+}
+
+// For a tag: its class value holds the name, as a word.
+fn tag_has_class(t: &[u8; 256], page: &[u8], n: Node, k: &[u8]) -> bool
+    requires { ⌜ Marked (now t) × (n .stop < n .opened) × (n .opened ≤ length (now page)) ⌝ }
+    ensures { λ r. ⌜ r ≡ valued (hasWord asciiWhite (now (k .entry))) (answer (whiteIn (now (t .entry))) (now (page .entry)) n className) ⌝ }
+{
+    if !may_have_class(page, n, k) {
+        return false;
+    }
+    check_attribute(t, page, n, b"class", k, Compare::ClassWord)
+}
+
 // The node is a tag with that id.
 pub fn has_id(t: &[u8; 256], page: &[u8], n: Node, name: &[u8]) -> bool
     requires { ⌜ Marked (now t) × Placed (now page) n ⌝ }
@@ -96,7 +149,7 @@ pub fn has_id(t: &[u8; 256], page: &[u8], n: Node, name: &[u8]) -> bool
     if n.kind != 1 {
         return false;
     }
-    check_attribute(t, page, n, b"id", name, Compare::Equal)
+    tag_has_id(t, page, n, name)
 }
 
 // How many times the node's class value holds the name, as a word.
@@ -105,6 +158,9 @@ pub fn class_times(t: &[u8; 256], page: &[u8], n: Node, name: &[u8]) -> usize
     ensures { λ r. ⌜ r ≡ nodeClassTimes (whiteIn (now (t .entry))) (now (page .entry)) (now (name .entry)) n ⌝ }
 {
     if n.kind != 1 {
+        return 0;
+    }
+    if !may_have_class(page, n, name) {
         return 0;
     }
     let held = tag::attribute(t, page, n, b"class");
@@ -133,6 +189,9 @@ fn check_value(
         r ≡ valued (compared how (textOf (now (s .entry)) b)) (ask (textOf (now (s .entry)) a)))
         ⌝ }
 {
+    if !may_have(page, n, text(s, b)) {
+        return false;
+    }
     check_attribute(t, page, n, text(s, a), text(s, b), how)
 }
 
@@ -146,8 +205,8 @@ fn tag_fits(t: &[u8; 256], page: &[u8], n: Node, s: &[u8], x: Simple) -> bool
 {
     match x {
         Simple::Tag(a) => constants::is_same(name(page, n), text(s, a)),
-        Simple::Id(a) => check_attribute(t, page, n, b"id", text(s, a), Compare::Equal),
-        Simple::Class(a) => check_attribute(t, page, n, b"class", text(s, a), Compare::ClassWord),
+        Simple::Id(a) => tag_has_id(t, page, n, text(s, a)),
+        Simple::Class(a) => tag_has_class(t, page, n, text(s, a)),
         Simple::All => true,
         Simple::Attribute(a) => has_attribute(t, page, n, text(s, a)),
         Simple::AttributeValue(a, b) => check_value(t, page, n, s, a, b, Compare::Equal),

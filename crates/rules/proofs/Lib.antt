@@ -6,6 +6,7 @@ pub mod Table
 pub mod Sound
 pub mod Nest
 pub mod Lookup
+pub mod Within
 pub mod Asking
 pub mod All
 pub mod Lists

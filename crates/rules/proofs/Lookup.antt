@@ -1,4 +1,4 @@
--- The value that an attribute lookup answers lies within the page.
+-- What holds of the value of each attribute holds of what a lookup answers; so that lies within the page.
 use mathlib.Core.Bool.{Bool, true, false}
 use mathlib.Core.List.{List, [], _∷_}
 use Prim.Native.Nat.{ℕ, zero, suc, _≤_}
@@ -25,6 +25,11 @@ pub held-inside : (n : ℕ) (r : Held) (v : Assigned) → Inside n r → InsideA
 held-inside n r Missing i j = i
 held-inside n r (Given a e) i j = j
 
+-- Q holds of each attribute
+abbrev pub Each : (Attribute → Type 0) → List Attribute → Type 0
+Each Q [] = Unit {0}
+Each Q (a ∷ rest) = Q a × Each Q rest
+
 module _ (white : ℕ → Bool) (p : List ℕ) where
   -- a run from within the page
   run : (P : ℕ → Bool) (a : ℕ) → a ≤ length p → (a ≤ skip P p a) × (skip P p a ≤ length p)
@@ -42,10 +47,33 @@ module _ (white : ℕ → Bool) (p : List ℕ) where
       cases (InsideAssigned (length p)) (here (is 61) p w)
       (λ t. given-inside (here isQuote p v) v (getD p v 0) (run white (pass p w) (omega arith) .1)) (λ t. tt)
 
-  -- each attribute's value, so what any of them answers
+  -- what holds of each value given holds of what is held, whichever name is asked for
+  module _ (G : Assigned → Type 0) (H : Held → Type 0) (absent : H Absent) (bare : H Bare)
+      (held : (r : Held) (v : Assigned) → H r → G v → H (heldAs r v))
+    where
+      abbrev All : List Attribute → Type 0
+      All = Each (λ a. G (a .value))
+
+      first-each : (k : List ℕ) (xs : List Attribute) → All xs → H (firstOf white p k xs)
+      unfolding firstOf
+      first-each k [] i = absent
+      first-each k (a ∷ rest) i =
+          cases H (named white p k a) (λ t. held Bare (a .value) bare (i .0)) (λ t. first-each k rest (i .1))
+
+      last-each : (k : List ℕ) (r : Held) (xs : List Attribute) → H r → All xs → H (lastOf white p k r xs)
+      unfolding lastOf
+      last-each k r [] i j = i
+      last-each k r (a ∷ rest) i j =
+          last-each k (pick (named white p k a) (heldAs Absent (a .value)) r) rest
+          (cases H (named white p k a) (λ t. held Absent (a .value) absent (j .0)) (λ t. i)) (j .1)
+
+      pub lookup-each : (at : ℕ) (k : List ℕ) → All (attributes white p (length p) at) → H (lookupFrom white p at k)
+      unfolding lookupFrom
+      lookup-each at k all =
+          cases H (isLast k) (λ t. last-each k Absent (attributes white p (length p) at) absent all) (λ t. first-each k (attributes white p (length p) at) all)
+
   abbrev pub AllInside : List Attribute → Type 0
-  AllInside [] = Unit {0}
-  AllInside (a ∷ rest) = InsideAssigned (length p) (a .value) × AllInside rest
+  AllInside = Each (λ a. InsideAssigned (length p) (a .value))
 
   pub attributes-inside : (k at : ℕ) → AllInside (attributes white p k at)
   unfolding attributes attributeAt
@@ -54,21 +82,6 @@ module _ (white : ℕ → Bool) (p : List ℕ) where
       let s : ℕ = skip white p at in
       cases AllInside (here notClosing p s) (λ t. (value-inside (skip white p (skip isIdent p s)), attributes-inside k (attributeNext white p s))) (λ t. tt)
 
-  first-inside : (k : List ℕ) (xs : List Attribute) → AllInside xs → Inside (length p) (firstOf white p k xs)
-  unfolding firstOf
-  first-inside k [] i = tt
-  first-inside k (a ∷ rest) i =
-      cases (Inside (length p)) (named white p k a) (λ t. held-inside (length p) Bare (a .value) tt (i .0)) (λ t. first-inside k rest (i .1))
-
-  last-inside : (k : List ℕ) (r : Held) (xs : List Attribute) → Inside (length p) r → AllInside xs → Inside (length p) (lastOf white p k r xs)
-  unfolding lastOf
-  last-inside k r [] i j = i
-  last-inside k r (a ∷ rest) i j =
-      last-inside k (pick (named white p k a) (heldAs Absent (a .value)) r) rest
-      (cases (Inside (length p)) (named white p k a) (λ t. held-inside (length p) Absent (a .value) tt (j .0)) (λ t. i)) (j .1)
-
   pub lookup-inside : (at : ℕ) (k : List ℕ) → Inside (length p) (lookupFrom white p at k)
-  unfolding lookupFrom
   lookup-inside at k =
-      let all : AllInside (attributes white p (length p) at) = attributes-inside (length p) at in
-      cases (Inside (length p)) (isLast k) (λ t. last-inside k Absent (attributes white p (length p) at) tt all) (λ t. first-inside k (attributes white p (length p) at) all)
+      lookup-each (InsideAssigned (length p)) (Inside (length p)) tt tt (held-inside (length p)) at k (attributes-inside (length p) at)

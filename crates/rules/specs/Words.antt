@@ -1,6 +1,7 @@
 -- Values as text: cut into words, and compared byte for byte.
 use Prim.Native.Nat.{ℕ, zero, suc, pred, _-_}
 use mathlib.Core.Bool.{Bool, true, false, not, _&&_, _||_}
+use mathlib.Core.Path.{_≡_}
 use mathlib.Core.List.{List, [], _∷_, _++_}
 use lib.ListN.{length, take, drop}
 use lib.Dec.{eqb, leb}
@@ -16,6 +17,12 @@ ends v xs = leb (length v) (length xs) && same (drop (length xs - length v) xs) 
 unfoldable pub contains : List ℕ → List ℕ → Bool
 contains v [] = begins v []
 contains v (x ∷ xs) = begins v (x ∷ xs) || contains v xs
+
+-- the same with the place: v lies between two parts of xs
+pub record Within (v xs : List ℕ) : Type 0 where
+  pub before : List ℕ
+  pub after : List ℕ
+  pub is : xs ≡ before ++ (v ++ after)
 
 -- the length of the separator at the front of xs, or 0
 unfoldable pub gap : List (List ℕ) → List ℕ → ℕ

@@ -11,7 +11,9 @@ ghost use Rattle.rules.specs.Bytes.{isIdent, isClosing, other, is};
 ghost use Rattle.rules.specs.Scan.{skip, here, pass, part as partOf};
 ghost use Rattle.rules.specs.Places.{currentAt, expectAt};
 ghost use Rattle.rules.specs.Attributes.{inValue};
+ghost use Rattle.rules.specs.Words.{Within};
 ghost use Rattle.scan.specs.Marks.{whiteIn, Marked, Base};
+ghost use Rattle.scan.specs.Pairs.{NoPair};
 
 // By byte value, 16 to a line: 1 an identifier byte, 2 white, 4 closing, and sums of these.
 const MARKS: [u8; 256] = *b"\
@@ -168,6 +170,57 @@ pub fn find(s: &[u8], at: usize, q: u8) -> usize
         i += 16;
     }
     i
+}
+
+// Whether a stands at one of the 16 places from i on, and b d bytes after it. As in `any16`, all are compared at once.
+fn pair16(s: &[u8], i: usize, d: usize, a: u8, b: u8) -> bool
+    requires { ⌜ i + d + 16 ≤ length (now s) ⌝ }
+    ensures { λ r. ⌜ (r ≡ false → NoPair (now (s .entry)) d a b i (i + 16)) ⌝ }
+{
+    let mut hit = false;
+    let mut j = 0;
+    while j < 16 {
+        hit = hit | ((s[i + j] == a) & (s[i + j + d] == b));
+        j += 1;
+    }
+    hit
+}
+
+// Whether a may stand at one of the places from `from` up to `to`, and b d bytes after it, 16 places at a time. Where fewer are
+// left to the end, the last 16 are tried; a pair outside the places asked for may count.
+fn may_pair(s: &[u8], from: usize, to: usize, d: usize, a: u8, b: u8) -> bool
+    requires { ⌜ (to + d ≤ length (now s)) × (d + 16 ≤ length (now s)) ⌝ }
+    ensures { λ r. ⌜ (r ≡ false → NoPair (now (s .entry)) d a b from to) ⌝ }
+{
+    let top = s.len() - d - 16;
+    let mut i = from;
+    while i < to {
+        if pair16(s, least(i, top), d, a, b) {
+            return true;
+        }
+        if top <= i {
+            return false;
+        }
+        i += 16;
+    }
+    false
+}
+
+// Whether k may stand in s between two places, with room for it: a quick test by its first and last byte. Where it says no, k does
+// not.
+pub fn may_hold(s: &[u8], from: usize, to: usize, k: &[u8]) -> bool
+    requires { ⌜ (from + length (now k) ≤ to) × (to ≤ length (now s)) ⌝ }
+    ensures { λ r. ⌜ (r ≡ false → Within (now (k .entry)) (partOf (now (s .entry)) from to) → ⊥) ⌝ }
+{
+    let m = k.len();
+    if m == 0 {
+        return true;
+    }
+    let d = m - 1;
+    if s.len() - d < 16 {
+        return true;
+    }
+    may_pair(s, from, to - d, d, k[0], k[d])
 }
 
 // Whether q stands at the place.

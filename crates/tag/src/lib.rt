@@ -6,10 +6,11 @@ use rules::Node;
 use rules::Ranged;
 use rules::Value;
 ghost use mathlib.Core.Path.{_≡_};
-ghost use mathlib.Core.Bool.{true};
+ghost use mathlib.Core.Bool.{true, false};
 ghost use Prim.Native.Nat.{_+_, _≤_, _<_};
 ghost use lib.ListN.{length};
 ghost use Rattle.rules.specs.Scan.{part, same};
+ghost use Rattle.rules.specs.Words.{Within};
 ghost use Rattle.rules.specs.Lookup.{isLast, heldAs, attributes, firstOf, lastOf, lookupFrom};
 ghost use Rattle.rules.specs.Sound.{countOf, sound, isTag};
 ghost use Rattle.rules.specs.Text.{innerText};
@@ -98,7 +99,19 @@ fn first_of(t: &[u8; 256], page: &[u8], from: usize, name: &[u8]) -> Held
     }
 }
 
-// The last attribute of that name, from `from` on; without a value it is absent.
+// Whether the name may stand from i on. Where it does not, no attribute there has it.
+fn may_follow(page: &[u8], i: usize, name: &[u8]) -> bool
+    requires { ⌜ i ≤ length (now page) ⌝ }
+    ensures { λ r. ⌜ (r ≡ false → Within (now (name .entry)) (part (now (page .entry)) i (length (now (page .entry)))) → ⊥) ⌝ }
+{
+    if page.len() - i < name.len() {
+        return false;
+    }
+    scan::may_hold(page, i, page.len(), name)
+}
+
+// The last attribute of that name, from `from` on; without a value it is absent. After one was found, the rest is read only if the
+// name may stand in it. That search ends where the name may stand, and the next starts after an attribute that has it: linear.
 fn last_of(t: &[u8; 256], page: &[u8], from: usize, name: &[u8]) -> Held
     requires { ⌜ Marked (now t) × (from ≤ length (now page)) ⌝ }
     ensures { λ r. ⌜
@@ -113,11 +126,14 @@ fn last_of(t: &[u8; 256], page: &[u8], from: usize, name: &[u8]) -> Held
         let Next::Found(a) = next_attribute(t, page, i) else {
             return found;
         };
+        i = a.next;
         if is_named(page, a, name) {
             let value = a.value;
             found = held(Held::Absent, value);
+            if !may_follow(page, i, name) {
+                return found;
+            }
         }
-        i = a.next;
     }
 }
 

@@ -8,10 +8,10 @@ returns : tie.Need-returns
 returns c = c .is-same .ensures ∙ rw (c .before .before .name .ensures, c .before .text .ensures, c .before .before .before .before .x .given .1)
 
 returns-2 : tie.Need-returns-2
-returns-2 c = c .check-attribute .ensures ∙ rw (c .before .text2 .ensures, c .before .before .before .before .x2 .given .1)
+returns-2 c = c .tag-has-id .ensures ∙ rw (c .before .text2 .ensures, c .before .before .before .x2 .given .1)
 
 returns-3 : tie.Need-returns-3
-returns-3 c = c .check-attribute2 .ensures ∙ rw (c .before .text3 .ensures, c .before .before .before .before .x3 .given .1)
+returns-3 c = c .tag-has-class .ensures ∙ rw (c .before .text3 .ensures, c .before .before .before .x3 .given .1)
 
 returns-4 : tie.Need-returns-4
 returns-4 c = rw (c .enum-told .given .1)
@@ -37,10 +37,4 @@ returns-10 c = rw (c .before .before .x9 .given .1) (c .check-value5 .ensures)
 pub tag-fits-spec : {M : Type 1} → statement M
 tag-fits-spec =
     tie.close
-    (tie.spec (λ c. search needs) (λ c κs. search needs) (λ c κs. search needs) (λ c κs. search needs)
-    (λ c. search needs) (λ c. search needs) (λ c κs. search needs) (λ c κs. search needs) (λ c. search needs)
-    (λ c. search needs) (λ c κs. search needs) (λ c κs. search needs) (λ c. search needs) (λ c. search needs)
-    (λ c κs. search needs) (λ c κs. search needs) (λ c. search needs) (λ c κs. search needs) (λ c. search needs)
-    (λ c κs. search needs) (λ c. search needs) (λ c κs. search needs) (λ c. search needs) (λ c κs. search needs)
-    (λ c. search needs) (λ c κs. search needs) returns returns-2 returns-3 returns-4 returns-5 returns-6 returns-7
-    returns-8 returns-9 returns-10)
+    (tie.spec (λ c. search needs) (λ c κs. search needs) (λ c κs. search needs) (λ c κs. search needs) (λ c. search needs) (λ c κs. search needs) (λ c κs. search needs) (λ c. search needs) (λ c κs. search needs) (λ c κs. search needs) (λ c. search needs) (λ c. search needs) (λ c κs. search needs) (λ c κs. search needs) (λ c. search needs) (λ c κs. search needs) (λ c. search needs) (λ c κs. search needs) (λ c. search needs) (λ c κs. search needs) (λ c. search needs) (λ c κs. search needs) (λ c. search needs) (λ c κs. search needs) returns returns-2 returns-3 returns-4 returns-5 returns-6 returns-7 returns-8 returns-9 returns-10)

@@ -1,11 +1,14 @@
--- `tag::last_of` meets its contract: the last of that name from `from` on is the last from i on, where `found` came before.
+-- `tag::last_of` meets its contract: the last of that name from `from` on is the last from i on, where `found` came before. Where the
+-- name stands nowhere in the rest, that is `found`.
 use borrow.Author.Needs.{needs}
+use borrow.Author.Tests.{not-true}
 use mathlib.Core.Path.{_≡_, sym, _∙_}
 use Prim.Native.Nat.{_-_, _≤_}
 use native.Mathlib.Omega.{arith}
 use lib.ListN.{length}
 use Rattle.rules.specs.declared.Held.the-variants.{Absent}
 use Rattle.scan.specs.Marks.{whiteIn}
+use Rattle.laws.proofs.Opening.{last-out}
 use Rattle.tag.proofs.Turns.{turn, none, last, last-none, last-turn}
 use Rattle.tag.proofs.last_of.Statement.{statement}
 use Rattle.tag.proofs.last_of.Tie as tie
@@ -30,21 +33,37 @@ is-named-requires c κs =
     (t .name, t .stop)
 
 -- it has the name
+may-follow-requires : tie.Need-may-follow-requires Inv-loop μ-loop
+may-follow-requires c κs =
+    let a = c .before .before .before .before in
+    let next = a .before .before in
+    let t = turn _ _ (next .before .loop .inv .0) (next .next-attribute .ensures) _ (a .a .given .1) in
+    t .next
+
+returns-2 : tie.Need-returns-2 Inv-loop μ-loop
+returns-2 c =
+    let a = c .before .before .before .before .before .before in
+    let next = a .before .before in
+    let l = next .before .loop in
+    let t = turn _ _ (l .inv .0) (next .next-attribute .ensures) _ (a .a .given .1) in
+    let one = last-turn _ _ _ t (l .found) (sym (c .before .before .before .before .is-named .ensures) ∙ c .before .before .before .if1 .taken) in
+    sym (l .inv .1 ∙ one ∙ rw (c .before .before .held .ensures) (last-out _ _ _ _ (c .before .may-follow .ensures (not-true _ (c .if2 .taken))) (t .next) _))
+
 loop-less : tie.Need-loop-less Inv-loop μ-loop
 loop-less c =
-    let a = c .before .before .before .before in
+    let a = c .before .before .before .before .before .before in
     let next = a .before .before in
     let t = turn _ _ (next .before .loop .inv .0) (next .next-attribute .ensures) _ (a .a .given .1) in
     omega (arith, t .later, t .next)
 
 loop-again : tie.Need-loop-again Inv-loop μ-loop
 loop-again c =
-    let a = c .before .before .before .before in
+    let a = c .before .before .before .before .before .before in
     let next = a .before .before in
     let l = next .before .loop in
     let t = turn _ _ (l .inv .0) (next .next-attribute .ensures) _ (a .a .given .1) in
-    let one = last-turn _ _ _ t (l .found) (sym (c .before .before .is-named .ensures) ∙ c .before .if1 .taken) in
-    (t .next, l .inv .1 ∙ one ∙ rw (c .held .ensures))
+    let one = last-turn _ _ _ t (l .found) (sym (c .before .before .before .before .is-named .ensures) ∙ c .before .before .before .if1 .taken) in
+    (t .next, l .inv .1 ∙ one ∙ rw (c .before .before .held .ensures))
 
 -- it has another
 loop-less-2 : tie.Need-loop-less-2 Inv-loop μ-loop
@@ -66,4 +85,4 @@ pub last-of-spec : {M : Type 1} → statement M
 last-of-spec =
     tie.close
     (tie.spec Inv-loop μ-loop (λ c. search needs) (λ c κs. search needs) (λ c. search needs) (λ c. search needs)
-    returns is-named-requires (λ c κs. search needs) loop-less loop-again loop-less-2 loop-again-2)
+    returns is-named-requires (λ c κs. search needs) may-follow-requires returns-2 loop-less loop-again loop-less-2 loop-again-2)
