@@ -3,3 +3,4 @@ pub mod Slots
 pub mod Words
 pub mod Noted
 pub mod Reading
+pub mod Alike

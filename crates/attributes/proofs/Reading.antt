@@ -4,7 +4,7 @@ use mathlib.Core.Bool.{Bool}
 use mathlib.Core.List.{List, [], _∷_}
 use Prim.Native.Nat.{ℕ, _*_, _≤_}
 use native.Mathlib.Omega.{arith}
-use lib.ListN.{length, replicate}
+use lib.ListN.{length, replicate, length-replicate}
 use Rattle.rules.specs.Lookup.{InsideAssigned, lookupFrom}
 use Rattle.rules.specs.Refusals.{pageLimit, heldNumbers}
 use Rattle.rules.specs.declared.Attribute.{Attribute}
@@ -38,13 +38,13 @@ module _ (white : ℕ → Bool) (p : List ℕ) where
       pub words : w ≡ heldWords held s es
       pub rest : (k : List ℕ) → allNoted p k (held k) (from white p i) ≡ allNoted p k Absent (from white p start)
 
-    pub reading-none : start ≤ length p → {n : ℕ} {w : List ℕ} → n ≡ 3 * length es → length w ≡ n → w ≡ replicate n 0 → Reading start w
-    reading-none l z m e =
+    pub reading-none : start ≤ length p → {w : List ℕ} → w ≡ replicate (3 * length es) 0 → Reading start w
+    reading-none l e =
         record {
           inside = l;
-          size = m ∙ z;
+          size = ap length e ∙ length-replicate (3 * length es) 0;
           held = λ k. Absent;
-          words = e ∙ ap (λ (i : ℕ). replicate i 0) z ∙ names-absent s 0 es;
+          words = e ∙ names-absent s 0 es;
           rest = λ k. refl;
         }
 

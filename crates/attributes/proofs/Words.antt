@@ -26,10 +26,16 @@ module _ (s : List ℕ) where
   length-names f n q at [] = omega arith
   length-names f n q at (e ∷ es) = simp length-append (rw (q (part s at e), length-names f n q e es) (omega arith))
 
-  pub names-same : (f g : List ℕ → List ℕ) → ((k : List ℕ) → f k ≡ g k) → (at : ℕ) (es : List ℕ) → eachName f s at es ≡ eachName g s at es
+  -- what gives the same for every name
+  pub names-at : (f g : List ℕ → List ℕ) (at : ℕ) (es : List ℕ)
+      → ((j : ℕ) → j < length es → f (part s (getD (at ∷ es) j 0) (getD es j 0)) ≡ g (part s (getD (at ∷ es) j 0) (getD es j 0)))
+      → eachName f s at es ≡ eachName g s at es
   unfolding eachName
-  names-same f g q at [] = refl
-  names-same f g q at (e ∷ es) = rw (q (part s at e), names-same f g q e es)
+  names-at f g at [] q = refl
+  names-at f g at (e ∷ es) q = rw (q 0 (omega arith), names-at f g e es (λ j l. q (suc j) (omega arith)))
+
+  pub names-same : (f g : List ℕ → List ℕ) → ((k : List ℕ) → f k ≡ g k) → (at : ℕ) (es : List ℕ) → eachName f s at es ≡ eachName g s at es
+  names-same f g q at es = names-at f g at es (λ j l. q (part s (getD (at ∷ es) j 0) (getD es j 0)))
 
   -- nothing is held
   pub names-absent : (at : ℕ) (es : List ℕ) → replicate (3 * length es) 0 ≡ eachName (λ k. heldNumbers Absent) s at es

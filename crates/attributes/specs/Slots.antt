@@ -4,6 +4,7 @@ use mathlib.Core.List.{List, _∷_}
 use Prim.Native.Nat.{ℕ, suc, _+_, _-_, _%_, _≤_, _<_}
 use lib.ListN.{length, getD}
 use Rattle.rules.specs.Scan.{part}
+use Rattle.rules.specs.Words.{Within}
 
 -- name j of the text s: it starts where the one before ends, and ends at its place
 abbrev pub nameAt : List ℕ → List ℕ → ℕ → List ℕ
@@ -23,3 +24,7 @@ pub record Slotted (s es : List ℕ) (n : ℕ) (t : List ℕ) : Type 0 where
   pub size : length t ≡ 256
   pub leads : (j : ℕ) → j < n → getD t (slotOf (nameAt s es j)) 0 < many → getD t (slotOf (nameAt s es j)) 0 ≡ suc j
   pub inside : (i : ℕ) → getD t i 0 < many → getD t i 0 ≤ n
+
+-- each name has k within: so a tag in whose opening k does not stand has none of them
+abbrev pub Alike : List ℕ → List ℕ → List ℕ → Type 0
+Alike s es k = (j : ℕ) → j < length es → Within k (nameAt s es j)

@@ -8,17 +8,23 @@ use rules::Node;
 use rules::Value;
 use tag::Next;
 ghost use mathlib.Core.Path.{_≡_};
+ghost use mathlib.Core.Bool.{false};
 ghost use mathlib.Core.List.{[], _∷_};
 ghost use Prim.Native.Nat.{suc, _*_, _≤_, _<_};
-ghost use lib.ListN.{length, getD, replicate};
+ghost use lib.ListN.{length, getD, take, replicate};
+ghost use Rattle.rules.specs.Scan.{part};
+ghost use Rattle.rules.specs.Words.{Within};
 ghost use Rattle.rules.specs.Lookup.{Inside, lookup, lookupFrom};
 ghost use Rattle.rules.specs.Refusals.{pageLimit, heldNumbers};
 ghost use Rattle.scan.specs.Marks.{Marked, whiteIn};
 ghost use Rattle.attributes.specs.Noting.{Placed, heldWords, Notes, NotesOne, NotesAll};
-ghost use Rattle.attributes.specs.Slots.{nameAt, slotOf, many, Slotted};
+ghost use Rattle.attributes.specs.Slots.{nameAt, slotOf, many, Slotted, Alike};
 
 // What the slot of several names holds, and of one whose number is too large for a byte.
 const MANY: u8 = 255;
+
+// The openings that are looked through for what all names begin with before they are read.
+const SHORT: usize = 16;
 
 // Writes the three words.
 fn write_three(words: &mut [u32], which: u32, start: u32, end: u32)
@@ -172,6 +178,35 @@ fn note_all(
     note_each(page, a, names, ends, out);
 }
 
+// ---- what all names begin with
+
+// How many of the text's first bytes all names begin with, 2 or 0. Names of a report often begin alike, as `data-` names do, and a tag
+// without these bytes need not be read.
+pub fn begun_alike(names: &[u8], ends: &[usize]) -> usize
+    ensures { λ r. ⌜ (r ≤ length (now (names .entry))) × Alike (now (names .entry)) (now (ends .entry)) (take r (now (names .entry))) ⌝ }
+{
+    if names.len() < 2 {
+        return 0;
+    }
+    let mut j = 0;
+    while j < ends.len() {
+        let name = name_at(names, ends, j);
+        if name.len() < 2 {
+            return 0;
+        }
+        if name[0] != names[0] {
+            return 0;
+        }
+        if name[1] != names[1] {
+            return 0;
+        }
+        j += 1;
+    }
+    2
+}
+
+// ---- one tag
+
 // Reads the attributes from `start` on once, and notes each.
 fn read_all(
     t: &[u8; 256],
@@ -183,13 +218,12 @@ fn read_all(
     out: &mut [u32],
 )
     requires { ⌜ Marked (now t) × (start ≤ length (now page)) × (length (now page) ≤ pageLimit) ⌝ }
-    requires { ⌜ Slotted (now names) (now ends) (length (now ends)) (now slots) × (length (now out) ≡ 3 * length (now ends)) ⌝ }
+    requires { ⌜ Slotted (now names) (now ends) (length (now ends)) (now slots) × (now out ≡ replicate (3 * length (now ends)) 0) ⌝ }
     ensures { λ _. ⌜
         (let held = lookupFrom (whiteIn (now (t .entry))) (now (page .entry)) start in
         now (out .exit) ≡ heldWords held (now (names .entry)) (now (ends .entry)))
         ⌝ }
 {
-    table::clear(out);
     let mut i = start;
     loop {
         let Next::Found(a) = tag::next_attribute(t, page, i) else {
@@ -200,23 +234,46 @@ fn read_all(
     }
 }
 
-// What the tag n of the page holds for each name.
+// Whether the tag n may have one of the names, which all begin with `first`: where that does not stand in its opening it has none. In a
+// long opening it mostly stands, and looking for it does not pay.
+pub fn may_have_any(page: &[u8], n: Node, first: &[u8]) -> bool
+    requires { ⌜ (n .stop < n .opened) × (n .opened ≤ length (now page)) ⌝ }
+    ensures { λ r. ⌜ (r ≡ false → Within (now (first .entry)) (part (now (page .entry)) (n .stop) (n .opened)) → ⊥) ⌝ }
+{
+    let stop = n.stop as usize;
+    let opened = n.opened as usize;
+    let room = opened - stop;
+    if SHORT < room {
+        return true;
+    }
+    if room < first.len() {
+        return true;
+    }
+    scan::may_hold(page, stop, opened, first)
+}
+
+// What the tag n of the page holds for each name, into words that are lent all zero.
 pub fn attributes(
     t: &[u8; 256],
     slots: &[u8; 256],
     page: &[u8],
     n: Node,
+    first: &[u8],
     names: &[u8],
     ends: &[usize],
     out: &mut [u32],
 )
     requires { ⌜ Marked (now t) × (n .stop < n .opened) × (n .opened ≤ length (now page)) × (length (now page) ≤ pageLimit) ⌝ }
-    requires { ⌜ Slotted (now names) (now ends) (length (now ends)) (now slots) × (length (now out) ≡ 3 * length (now ends)) ⌝ }
+    requires { ⌜ Slotted (now names) (now ends) (length (now ends)) (now slots) × Alike (now names) (now ends) (now first) ⌝ }
+    requires { ⌜ now out ≡ replicate (3 * length (now ends)) 0 ⌝ }
     ensures { λ _. ⌜
         (let held = lookup (whiteIn (now (t .entry))) (now (page .entry)) n in
         now (out .exit) ≡ heldWords held (now (names .entry)) (now (ends .entry)))
         ⌝ }
 {
+    if !may_have_any(page, n, first) {
+        return;
+    }
     let stop = n.stop as usize;
     let opened = n.opened as usize;
     read_all(t, slots, &page[0..opened], stop, names, ends, out);

@@ -3,6 +3,7 @@ pub mod Handles
 pub mod Three
 pub mod Parts
 pub mod Names
+pub mod Cleared
 pub mod Room
 pub mod Stores
 pub mod Fills

@@ -5,7 +5,9 @@ use mathlib.Core.List.{List, []}
 use Prim.Native.Nat.{ℕ, _+_, _*_, _/_, _%_, _≤_, _<_}
 use lib.Dec.{eqb, ltb}
 use lib.ListN.{length, getD}
-use Rattle.rules.specs.Scan.{pick}
+use Rattle.rules.specs.Scan.{pick, part}
+use Rattle.rules.specs.Words.{Within}
+use Rattle.rules.specs.Table.{nodeAt}
 use Rattle.rules.specs.Sound.{countOf}
 use Rattle.rules.specs.Text.{textAt}
 use Rattle.rules.specs.Buffers.{Wrote}
@@ -55,6 +57,11 @@ pub record Puts (s b : List ℕ) (at : ℕ) (r : Put) (out : List ℕ) : Type 0 
   pub size : length out ≡ length b
   pub until : (e : ℕ) → r ≡ Until e → Wrote b at s out e × (at + length s ≤ length b)
   pub short : r ≡ Short → length b < at + length s
+
+-- k stands in no handle's opening
+abbrev pub Unnamed : List ℕ → List ℕ → List ℕ → List ℕ → Type 0
+Unnamed p ws k hs =
+    (i : ℕ) → i < length hs → let n = nodeAt ws (getD hs i 0) in Within k (part p (n .stop) (n .opened)) → ⊥
 
 -- no row from a up to e has text
 abbrev pub NoText : List ℕ → List ℕ → ℕ → ℕ → Type 0

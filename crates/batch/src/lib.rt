@@ -16,8 +16,9 @@ ghost use Rattle.rules.specs.Refusals.{pageLimit, notATag, heldNumbers, filledB
 ghost use Rattle.rules.specs.Buffers.{Wrote};
 ghost use Rattle.rules.specs.Batch.{some, attributesFound, attributesAnswer, attributesBuffer, namesFound, namesAnswer, namesBuffer, textsAnswer, textsBuffer, endsBuffer};
 ghost use Rattle.rules.specs.Lookup.{Inside};
+ghost use Rattle.attributes.specs.Slots.{Alike};
 ghost use Rattle.calls.specs.Calls.{Filled};
-ghost use Rattle.batch.specs.Batch.{tagsChecked, Tags, unless, FilledBoth, TextsLeft, Passes, Covers, Skips, nextText, Puts};
+ghost use Rattle.batch.specs.Batch.{tagsChecked, Tags, unless, FilledBoth, Unnamed, TextsLeft, Passes, Covers, Skips, nextText, Puts};
 
 // The most rows that a page has, and rows enough for a short one, for which less is cleared.
 const ROWS: usize = 43691;
@@ -150,7 +151,74 @@ fn has_room(room: usize, names: usize, handles: usize) -> bool
     handles <= room / 3 / names
 }
 
-// Writes what each tag holds for each name. The marks and the names' slots are made once, and each tag's attributes are read once.
+// Whether no tag has any of the names, which all begin with `first`, as far as a quick test tells.
+fn none_named(page: &[u8], table: &[u32], handles: &[u32], first: &[u8]) -> bool
+    requires { ⌜ Tags (now page) (now table) (now handles) ⌝ }
+    ensures { λ r. ⌜ (r ≡ true → Unnamed (now (page .entry)) (now (table .entry)) (now (first .entry)) (now (handles .entry))) ⌝ }
+{
+    let mut i = 0;
+    while i < handles.len() {
+        let h = handles[i] as usize;
+        let n = table::row_at(table, h);
+        if attributes::may_have_any(page, n, first) {
+            return false;
+        }
+        i += 1;
+    }
+    true
+}
+
+// Writes what each tag holds for each name, which all begin with `first`, into words that are lent all zero. The marks and the names'
+// slots are made once, and each tag's attributes are read once.
+fn read_names(
+    page: &[u8],
+    table: &[u32],
+    handles: &[u32],
+    first: &[u8],
+    names: &[u8],
+    ends: &[usize],
+    out: &mut [u32],
+)
+    requires { ⌜ Tags (now page) (now table) (now handles) × Alike (now names) (now ends) (now first) ⌝ }
+    requires { ⌜ now out ≡ replicate (3 * length (now ends) * length (now handles)) 0 ⌝ }
+    ensures { λ _. ⌜ now (out .exit) ≡ namesFound isWhite (now (page .entry)) (now (table .entry)) (now (handles .entry)) (now (names .entry)) (now (ends .entry)) ⌝ }
+{
+    let t = scan::mark_table();
+    let mut slots = [0u8; 256];
+    attributes::fill_slots(&mut slots, names, ends);
+    let mut at = 0;
+    let mut i = 0;
+    while i < handles.len() {
+        let h = handles[i] as usize;
+        let n = table::row_at(table, h);
+        let end = at + 3 * ends.len();
+        attributes::attributes(&t, &slots, page, n, first, names, ends, &mut out[at..end]);
+        at = end;
+        i += 1;
+    }
+}
+
+// The same, where no tag may have any of the names without making marks and slots.
+fn note_names(
+    page: &[u8],
+    table: &[u32],
+    handles: &[u32],
+    names: &[u8],
+    ends: &[usize],
+    out: &mut [u32],
+)
+    requires { ⌜ Tags (now page) (now table) (now handles) × (now out ≡ replicate (3 * length (now ends) * length (now handles)) 0) ⌝ }
+    ensures { λ _. ⌜ now (out .exit) ≡ namesFound isWhite (now (page .entry)) (now (table .entry)) (now (handles .entry)) (now (names .entry)) (now (ends .entry)) ⌝ }
+{
+    let alike = attributes::begun_alike(names, ends);
+    let first = &names[0..alike];
+    if none_named(page, table, handles, first) {
+        return;
+    }
+    read_names(page, table, handles, first, names, ends, out);
+}
+
+// Writes what each tag holds for each name. All words are cleared at once: to clear each tag's took a call for few words.
 fn put_names(
     page: &[u8],
     table: &[u32],
@@ -165,19 +233,9 @@ fn put_names(
         now (out .exit) ≡ found ++ drop (length found) (now (out .entry)))
         ⌝ }
 {
-    let t = scan::mark_table();
-    let mut slots = [0u8; 256];
-    attributes::fill_slots(&mut slots, names, ends);
-    let mut at = 0;
-    let mut i = 0;
-    while i < handles.len() {
-        let h = handles[i] as usize;
-        let n = table::row_at(table, h);
-        let end = at + 3 * ends.len();
-        attributes::attributes(&t, &slots, page, n, names, ends, &mut out[at..end]);
-        at = end;
-        i += 1;
-    }
+    let all = 3 * (ends.len() * handles.len());
+    table::clear(&mut out[0..all]);
+    note_names(page, table, handles, names, ends, &mut out[0..all]);
 }
 
 // The attributes of tags for each name, or refusal 7.

@@ -9,7 +9,7 @@ use lib.ListN.{length}
 use Rattle.rules.specs.Bytes.{isIdent, isQuote, is}
 use Rattle.rules.specs.Scan.{pick, skip, here, pass, part}
 use Rattle.rules.specs.Attributes.{valueAt, attributeAt, attributeNext, notClosing}
-use Rattle.rules.specs.Lookup.{heldAs, attributes, named, lastOf, lookupFrom}
+use Rattle.rules.specs.Lookup.{isLast, heldAs, attributes, named, firstOf, lastOf, lookupFrom}
 use Rattle.rules.specs.Words.{Within}
 use Rattle.rules.specs.declared.Attribute.{Attribute}
 use Rattle.rules.specs.declared.Held.{Held}
@@ -87,3 +87,19 @@ module _ (white : ℕ → Bool) (p : List ℕ) (lo : ℕ) where
     last-out h r =
         last-same r (attributes white p (length p) lo)
         (each-from (λ a. named white p k a ≡ true → ⊥) not-named (length p) lo (omega arith) h)
+
+    first-none : (xs : List Attribute) → Each (λ a. named white p k a ≡ true → ⊥) xs → firstOf white p k xs ≡ Absent
+    unfolding firstOf
+    first-none [] all = refl
+    first-none (a ∷ rest) all = go (named white p k a) (all .0) (first-none rest (all .1))
+      where
+        go : (b : Bool) → (b ≡ true → ⊥) → firstOf white p k rest ≡ Absent → pick b (heldAs Bare (a .value)) (firstOf white p k rest) ≡ Absent
+        go true n e = absurd (n refl)
+        go false n e = e
+
+    -- so nothing is held for it
+    pub lookup-out : lo ≤ length p → lookupFrom white p lo k ≡ Absent
+    unfolding lookupFrom
+    lookup-out h =
+        cases (λ r. r ≡ Absent) (isLast k) (λ t. last-out h Absent)
+        (λ t. first-none (attributes white p (length p) lo) (each-from (λ a. named white p k a ≡ true → ⊥) not-named (length p) lo (omega arith) h))

@@ -25,6 +25,10 @@ module _ {k : List ℕ} where
   pub longer : {xs : List ℕ} (ys : List ℕ) → Within k xs → Within k (xs ++ ys)
   longer ys w = record { before = w .before; after = w .after ++ ys; is = rw (w .is) (simp append-assoc) }
 
+-- what lies within k lies within what k lies within
+pub within-within : {j k xs : List ℕ} → Within j k → Within k xs → Within j xs
+within-within v w = rw (w .is) (further (w .before) (longer (w .after) v))
+
 -- ---- parts of a page
 part-split : (p : List ℕ) (a b c : ℕ) → a ≤ b → b ≤ c → part p a c ≡ part p a b ++ part p b c
 part-split p a b c l m =

@@ -1,8 +1,9 @@
 -- `attributes::read_all` meets its contract: the attributes from `start` up to i were noted.
 use borrow.Author.Needs.{needs}
-use Prim.Native.Nat.{_-_}
+use mathlib.Core.Path.{ap, sym, _∙_}
+use Prim.Native.Nat.{_*_, _-_}
 use native.Mathlib.Omega.{arith}
-use lib.ListN.{length}
+use lib.ListN.{length, length-replicate}
 use Rattle.scan.specs.Marks.{whiteIn}
 use Rattle.tag.proofs.Turns.{turn, none}
 use Rattle.attributes.proofs.Reading.{turn-placed, Reading, reading-none, reading-more, reading-all}
@@ -17,12 +18,14 @@ abbrev μ-loop : tie.MeasureT-loop
 
 loop-holds : tie.Need-loop-holds Inv-loop μ-loop
 loop-holds c =
-    let s = c .before .before .before .before .before .before .before .before in
+    let s = c .before .before .before .before in
     let a = s .args in
-    reading-none (whiteIn (a .t .now)) (a .page .now) (a .start) (a .names .now) (a .ends .now) (s .pre .0 .1) (s .pre .1 .1) (c .before .out .given) (c .before .before .clear .ensures)
+    reading-none (whiteIn (a .t .now)) (a .page .now) (a .start) (a .names .now) (a .ends .now) (s .pre .0 .1) (s .pre .1 .1)
 
 same-length : tie.Need-same-length Inv-loop μ-loop
-same-length c = omega (arith, c .before .before .before .loop .inv .size, c .before .before .before .before .before .before .before .before .before .before .before .before .pre .1 .1)
+same-length c =
+    let s = c .before .before .before .before .before .before .before .before in
+    c .before .before .before .loop .inv .size ∙ sym (ap length (s .pre .1 .1) ∙ length-replicate (3 * length (s .args .ends .now)) 0)
 
 returns : tie.Need-returns Inv-loop μ-loop
 returns c =
@@ -32,7 +35,7 @@ returns c =
 note-all-requires : tie.Need-note-all-requires Inv-loop μ-loop
 note-all-requires c κs =
     let l = c .before .before .before .before .before .loop in
-    let s = c .before .before .before .before .before .before .before .before .before .before .before .before .before .before in
+    let s = c .before .before .before .before .before .before .before .before .before .before in
     (s .pre .1 .0, (l .inv .size, turn-placed _ _ (s .pre .0 .2) (turn _ _ (l .inv .inside) (c .before .before .before .before .next-attribute .ensures) _ (c .before .before .a .given .1))))
 
 loop-less : tie.Need-loop-less Inv-loop μ-loop
@@ -44,10 +47,9 @@ loop-again : tie.Need-loop-again Inv-loop μ-loop
 loop-again c =
     let l = c .before .before .before .before .before .before .before .before .loop in
     let t = turn _ _ (l .inv .inside) (c .before .before .before .before .before .before .before .next-attribute .ensures) _ (c .before .before .before .before .before .a .given .1) in
-    reading-more _ _ _ _ _ (l .inv) t (c .before .out2 .given) (c .before .before .note-all .ensures)
+    reading-more _ _ _ _ _ (l .inv) t (c .before .out .given) (c .before .before .note-all .ensures)
 
 pub read-all-spec : {M : Type 1} → statement M
 read-all-spec =
     tie.close
-    (tie.spec Inv-loop μ-loop (λ c κs. search needs) loop-holds (λ c κs. search needs) (λ c. search needs)
-    (λ c. search needs) same-length returns note-all-requires loop-less loop-again)
+    (tie.spec Inv-loop μ-loop loop-holds (λ c κs. search needs) (λ c. search needs) (λ c. search needs) same-length returns note-all-requires loop-less loop-again)
