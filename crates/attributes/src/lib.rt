@@ -23,7 +23,7 @@ ghost use Rattle.attributes.specs.Slots.{nameAt, slotOf, many, Slotted, 
 // What the slot of several names holds, and of one whose number is too large for a byte.
 const MANY: u8 = 255;
 
-// The openings that are looked through for what all names begin with before they are read.
+// The longest opening that is looked through for what all names begin with before it is read.
 const SHORT: usize = 16;
 
 // Writes the three words.

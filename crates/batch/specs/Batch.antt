@@ -71,7 +71,7 @@ NoText p ws a e = (j : ℕ) → a ≤ j → j < e → textAt p ws j ≡ []
 abbrev pub Passes : List ℕ → List ℕ → ℕ → ℕ → Type 0
 Passes p ws k r = (k ≤ r) × (r ≤ countOf ws) × NoText p ws k r
 
--- n places, one for every `step`-th row, are as many as count rows want
+-- n places, one for every `step`-th row, are no more than count rows want
 pub record Covers (count step n : ℕ) : Type 0 where
   pub some : 0 < step
   pub below : step * n < count + step

@@ -198,7 +198,7 @@ fn read_names(
     }
 }
 
-// The same, where no tag may have any of the names without making marks and slots.
+// The same. Where a quick test tells that no tag has any of the names, neither marks nor slots are made.
 fn note_names(
     page: &[u8],
     table: &[u32],
