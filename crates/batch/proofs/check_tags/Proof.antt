@@ -13,7 +13,8 @@ use Rattle.batch.proofs.check_tags.Tie as tie
 
 all-tags-requires : tie.Need-all-tags-requires
 all-tags-requires c κs =
-    let a = c .before .before .before .before .before .before .args in was-fine (a .page .now) (a .table .now) (sym (c .before .before .check .ensures) ∙ c .enum-told .given .1) .table
+    let a = c .before .before .before .before .before .before .args in
+    was-fine (a .page .now) (a .table .now) (sym (c .before .before .check .ensures) ∙ c .enum-told .given .1) .table
 
 returns : tie.Need-returns
 returns c =

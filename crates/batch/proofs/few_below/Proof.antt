@@ -19,12 +19,15 @@ abbrev μ-loop : tie.MeasureT-loop
 row-at-requires : tie.Need-row-at-requires Inv-loop μ-loop
 row-at-requires c κs =
     let a = c .before .before .before .before .before .before .args in
-    row-room (a .page .now) (a .table .now) _ (tag-at (a .page .now) (a .table .now) (a .handles .now) (c .before .before .before .before .before .before .pre) (c .before .before .loop .i) (c .before .loop-test .taken))
+    row-room (a .page .now) (a .table .now) _
+    (tag-at (a .page .now) (a .table .now) (a .handles .now) (c .before .before .before .before .before .before .pre) (c .before .before .loop .i)
+    (c .before .loop-test .taken))
 
 sub-below : tie.Need-sub-below Inv-loop μ-loop
 sub-below c =
     let a = c .before .before .before .before .before .before .before .before .args in
-    let t = tag-at (a .page .now) (a .table .now) (a .handles .now) (c .before .before .before .before .before .before .before .before .pre) (c .before .before .before .before .loop .i) (c .before .before .before .loop-test .taken) in
+    let t = tag-at (a .page .now) (a .table .now) (a .handles .now) (c .before .before .before .before .before .before .before .before .pre)
+    (c .before .before .before .before .loop .i) (c .before .before .before .loop-test .taken) in
     let r = sound-rows (length (a .page .now)) (a .table .now) (t .sound-table .table) _ (t .below) in
     rw (c .before .row-at .ensures) (omega (arith, r .last-low))
 

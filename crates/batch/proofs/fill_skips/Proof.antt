@@ -65,5 +65,6 @@ returns c =
 pub fill-skips-spec : {M : Type 1} → statement M
 fill-skips-spec =
     tie.close
-    (tie.spec Inv-loop μ-loop shared-slice-read-count cast-count loop-holds (λ c. search needs) mul-from lowest-text-requires cast-skip (λ c. search needs) slice-write-skip
+    (tie.spec Inv-loop μ-loop shared-slice-read-count cast-count loop-holds (λ c. search needs) mul-from lowest-text-requires cast-skip
+    (λ c. search needs) slice-write-skip
     (λ c. search needs) loop-again same-length returns)

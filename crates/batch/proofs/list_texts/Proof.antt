@@ -18,7 +18,8 @@ returns c =
 returns-2 : tie.Need-returns-2
 returns-2 c =
     let a = c .before .before .before .before .before .before .before .before .before .before .before .before .before .args in
-    rw (le-ltb (length (a .ends .now)) (length (a .handles .now)) (c .before .before .before .before .before .before .before .if1 .left)) (c .before .before .before .before .walk-texts .ensures)
+    rw (le-ltb (length (a .ends .now)) (length (a .handles .now)) (c .before .before .before .before .before .before .before .if1 .left))
+    (c .before .before .before .before .walk-texts .ensures)
 
 pub list-texts-spec : {M : Type 1} → statement M
 list-texts-spec =

@@ -34,8 +34,11 @@ text-size-requires c κs =
 loop-again : tie.Need-loop-again Inv-loop μ-loop
 loop-again c =
     let f = c .before .before .before .before .loop .inv .1 in
-    let a = c .before .before .before .before .before .before .before .args in
-    (omega (arith, c .before .before .before .loop-test .taken), pass-text (a .page .now) (a .table .now) _ (omega (arith, f .0, f .1, c .before .before .before .loop-test .taken)))
+    let a = c .before .before .before .before .before .before .before .args in (
+      omega (arith, c .before .before .before .loop-test .taken),
+      pass-text (a .page .now) (a .table .now) _
+          (omega (arith, f .0, f .1, c .before .before .before .loop-test .taken)),
+    )
 
 loop-again-2 : tie.Need-loop-again-2 Inv-loop μ-loop
 loop-again-2 c =
@@ -55,4 +58,5 @@ returns c =
 pub lowest-text-spec : {M : Type 1} → statement M
 lowest-text-spec =
     tie.close
-    (tie.spec Inv-loop μ-loop loop-holds (λ c. search needs) row-at-requires text-size-requires (λ c. search needs) loop-again (λ c. search needs) loop-again-2 returns)
+    (tie.spec Inv-loop μ-loop loop-holds (λ c. search needs) row-at-requires text-size-requires (λ c. search needs) loop-again (λ c. search needs)
+    loop-again-2 returns)

@@ -28,7 +28,8 @@ mul-result-2 : tie.Need-mul-result-2
 mul-result-2 c =
     let a = c .before .before .args in
     let l : a .k / a .step < length (a .skip .now) =
-    ltb-true (a .k / a .step) (length (a .skip .now)) (and-right (eqb (a .k % a .step) 0) (ltb (a .k / a .step) (length (a .skip .now))) (c .if3 .taken)) in
+    ltb-true (a .k / a .step) (length (a .skip .now))
+    (and-right (eqb (a .k % a .step) 0) (ltb (a .k / a .step) (length (a .skip .now))) (c .if3 .taken)) in
     search needs
 
 shared-slice-read-result-2 : tie.Need-shared-slice-read-result-2
@@ -49,4 +50,5 @@ returns-4 c = rw (c .if3 .left)
 pub next-text-spec : {M : Type 1} → statement M
 next-text-spec =
     tie.close
-    (tie.spec (λ c. search needs) (λ c. search needs) cast-result returns returns-2 (λ c. search needs) (λ c. search needs) mul-result-2 shared-slice-read-result-2 cast-result-2 returns-3 returns-4)
+    (tie.spec (λ c. search needs) (λ c. search needs) cast-result returns returns-2 (λ c. search needs) (λ c. search needs) mul-result-2
+    shared-slice-read-result-2 cast-result-2 returns-3 returns-4)

@@ -35,7 +35,8 @@ row-at-requires : tie.Need-row-at-requires Inv-loop μ-loop
 row-at-requires c κs =
     let s = c .before .before .before .before .before .before .before in
     let a = s .args in
-    row-room (a .page .now) (a .table .now) _ (tag-at (a .page .now) (a .table .now) (a .handles .now) (s .pre) (c .before .before .loop .i) (c .before .loop-test .taken))
+    row-room (a .page .now) (a .table .now) _
+    (tag-at (a .page .now) (a .table .now) (a .handles .now) (s .pre) (c .before .before .loop .i) (c .before .loop-test .taken))
 
 may-have-any-requires : tie.Need-may-have-any-requires Inv-loop μ-loop
 may-have-any-requires c κs =
@@ -62,4 +63,5 @@ returns-2 c said = λ j l. c .before .loop .inv .1 j (omega (arith, c .loop-test
 pub none-named-spec : {M : Type 1} → statement M
 none-named-spec =
     tie.close
-    (tie.spec Inv-loop μ-loop loop-holds (λ c. search needs) (λ c. search needs) cast-h row-at-requires may-have-any-requires returns (λ c. search needs) (λ c. search needs) loop-again returns-2)
+    (tie.spec Inv-loop μ-loop loop-holds (λ c. search needs) (λ c. search needs) cast-h row-at-requires may-have-any-requires returns
+    (λ c. search needs) (λ c. search needs) loop-again returns-2)

@@ -21,7 +21,8 @@ Known =
     lts.After-begun-alike
     (begun-alike.Asked, begun-alike.Learnt, none-named.Asked, none-named.Learnt, read-names.Asked, read-names.Learnt) reads.Pre reads.Post
 
-alike : (c : Known) → let a = c .before .before .before .before .before .before .before .args in Alike (a .names .now) (a .ends .now) (take (c .begun-alike .result - 0) (a .names .now))
+alike : (c : Known) → let a = c .before .before .before .before .before .before .before .args in
+    Alike (a .names .now) (a .ends .now) (take (c .begun-alike .result - 0) (a .names .now))
 alike c =
     let z : c .begun-alike .result - 0 ≡ c .begun-alike .result = omega arith in rw z (c .begun-alike .ensures .1)
 
@@ -36,9 +37,12 @@ returns c =
     (c .before .none-named .ensures (c .if1 .taken))
 
 read-names-requires : tie.Need-read-names-requires
-read-names-requires c κs = let s = c .before .before .before .before .before .before .before .before .before .before .before in ((s .pre .0, alike (c .before .before .before .before)), s .pre .1)
+read-names-requires c κs =
+    let s = c .before .before .before .before .before .before .before .before .before .before .before in
+    ((s .pre .0, alike (c .before .before .before .before)), s .pre .1)
 
 pub note-names-spec : {M : Type 1} → statement M
 note-names-spec =
     tie.close
-    (tie.spec (λ c κs. search needs) (λ c. search needs) (λ c. search needs) (λ c. search needs) (λ c κs. search needs) returns read-names-requires (λ c. search needs) (λ c. search needs))
+    (tie.spec (λ c κs. search needs) (λ c. search needs) (λ c. search needs) (λ c. search needs) (λ c κs. search needs) returns read-names-requires
+    (λ c. search needs) (λ c. search needs))

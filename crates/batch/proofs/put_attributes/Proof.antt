@@ -32,12 +32,17 @@ cast-h c = omega (arith, c .shared-slice-known5 .given (c .before .before .loop 
 row-at-requires : tie.Need-row-at-requires Inv-loop μ-loop
 row-at-requires c κs =
     let a = c .before .before .before .before .before .before .before .before .before .args in
-    row-room (a .page .now) (a .table .now) _ (tag-at (a .page .now) (a .table .now) (a .handles .now) (c .before .before .before .before .before .before .before .before .before .pre .0) (c .before .before .loop .i) (c .before .loop-test .taken))
+    row-room (a .page .now) (a .table .now) _
+    (tag-at (a .page .now) (a .table .now) (a .handles .now) (c .before .before .before .before .before .before .before .before .before .pre .0)
+    (c .before .before .loop .i) (c .before .loop-test .taken))
 
 attribute-requires : tie.Need-attribute-requires Inv-loop μ-loop
 attribute-requires c κs =
     let a = c .before .before .before .before .before .before .before .before .before .before .before .args in
-    let o = opening (a .page .now) (a .table .now) _ (tag-at (a .page .now) (a .table .now) (a .handles .now) (c .before .before .before .before .before .before .before .before .before .before .before .pre .0) (c .before .before .before .before .loop .i) (c .before .before .before .loop-test .taken)) in
+    let o = opening (a .page .now) (a .table .now) _
+    (tag-at (a .page .now) (a .table .now) (a .handles .now)
+    (c .before .before .before .before .before .before .before .before .before .before .before .pre .0) (c .before .before .before .before .loop .i)
+    (c .before .before .before .loop-test .taken)) in
     rw (c .before .row-at .ensures) (c .before .before .before .before .before .mark-table .ensures .marked, o .0, o .1)
 
 put-held-requires : tie.Need-put-held-requires Inv-loop μ-loop
@@ -49,8 +54,11 @@ put-held-requires c κs =
     let k = a .name .now in
     let h = getD (a .handles .now) (l .i) 0 in
     let s = tag-at p ws (a .handles .now) (c .before .before .before .before .before .before .before .before .before .before .before .before .before .pre .0) (l .i) (c .before .before .before .before .before .loop-test .taken) in
-    let room = room-next (a .handles .now) (l .i) (three p ws k) (l .inv .1) (c .before .before .before .before .before .loop-test .taken) in
-    (held-inside p ws k h s (c .before .before .before .before .before .before .before .mark-table .ensures .white) (c .before .before .before .row-at .ensures) (c .before .attribute .ensures), omega (arith, three-length p ws k h))
+    let room = room-next (a .handles .now) (l .i) (three p ws k) (l .inv .1) (c .before .before .before .before .before .loop-test .taken) in (
+      held-inside p ws k h s (c .before .before .before .before .before .before .before .mark-table .ensures .white)
+          (c .before .before .before .row-at .ensures) (c .before .attribute .ensures),
+      omega (arith, three-length p ws k h),
+    )
 
 loop-again : tie.Need-loop-again Inv-loop μ-loop
 loop-again c =
@@ -61,8 +69,12 @@ loop-again c =
     let k = a .name .now in
     let h = getD (a .handles .now) (l .i) 0 in
     let s = tag-at p ws (a .handles .now) (c .before .before .before .before .before .before .before .before .before .before .before .before .before .before .before .before .pre .0) (l .i) (c .before .before .before .before .before .before .before .before .loop-test .taken) in
-    let held = three-held p ws k h s (c .before .before .before .before .before .before .before .before .before .before .mark-table .ensures .white) (c .before .before .before .before .before .before .row-at .ensures) (c .before .before .before .before .attribute .ensures) in
-    (search needs, left-next (a .handles .now) (l .i) (three p ws k) (l .inv .1) (c .before .before .before .before .before .before .before .before .loop-test .taken) (rw held (c .before .before .put-held .ensures)))
+    let held = three-held p ws k h s (c .before .before .before .before .before .before .before .before .before .before .mark-table .ensures .white)
+    (c .before .before .before .before .before .before .row-at .ensures) (c .before .before .before .before .attribute .ensures) in (
+      search needs,
+      left-next (a .handles .now) (l .i) (three p ws k) (l .inv .1)
+          (c .before .before .before .before .before .before .before .before .loop-test .taken) (rw held (c .before .before .put-held .ensures)),
+    )
 
 same-length : tie.Need-same-length Inv-loop μ-loop
 same-length c = c .before .loop .inv .1 .size

@@ -29,10 +29,12 @@ returns c =
     let s = c .before .before .before .before .before .before .before .before .before .before .before .before .before .before in
     let a = s .args in
     let size = words-all (a .page .now) (a .table .now) (a .names .now) (a .ends .now) (a .handles .now) in
-    noted-first (a .out .now) (clear .last .0) (3 * (length (a .ends .now) * length (a .handles .now))) (s .pre .1) (clear .ensures) (note .last .1 .1 .1 .1 .1 .0)
+    noted-first (a .out .now) (clear .last .0) (3 * (length (a .ends .now) * length (a .handles .now))) (s .pre .1) (clear .ensures)
+    (note .last .1 .1 .1 .1 .1 .0)
     ∙ ap (λ (x : List ℕ). x ++ drop (3 * (length (a .ends .now) * length (a .handles .now))) (a .out .now)) (note .ensures) ∙ rw size
 
 pub put-names-spec : {M : Type 1} → statement M
 put-names-spec =
     tie.close
-    (tie.spec (λ c. search needs) (λ c. search needs) (λ c. search needs) (λ c. search needs) (λ c. search needs) (λ c κs. search needs) (λ c. search needs) (λ c. search needs) (λ c. search needs) note-names-requires (λ c. search needs) returns)
+    (tie.spec (λ c. search needs) (λ c. search needs) (λ c. search needs) (λ c. search needs) (λ c. search needs) (λ c κs. search needs)
+    (λ c. search needs) (λ c. search needs) (λ c. search needs) note-names-requires (λ c. search needs) returns)

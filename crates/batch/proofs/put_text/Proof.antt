@@ -27,7 +27,11 @@ row-at-requires c κs =
     fits (a .page .now) (a .table .now) (s .pre .0 .0) (a .h) (s .pre .1 .0)
 
 add-next-text : tie.Need-add-next-text Inv-loop μ-loop
-add-next-text c = omega (arith, c .before .before .before .before .shared-slice-known2 .given 0, c .before .before .before .before .before .before .pre .1 .0)
+add-next-text c = omega (
+  arith,
+  c .before .before .before .before .shared-slice-known2 .given 0,
+  c .before .before .before .before .before .before .pre .1 .0,
+)
 
 loop-holds : tie.Need-loop-holds Inv-loop μ-loop
 loop-holds c =
@@ -66,23 +70,35 @@ returns c =
     let ws = a .table .now in
     let l = c .before .before .before .before .loop in
     let w = walk p ws (s .pre .0 .0) (s .pre .1 .0) (c .before .before .before .before .before .before .before .row-at .ensures) in
-    let cut = next-row p ws (s .pre .0 .1) (a .h) (omega (arith, w .top, c .before .before .before .loop-test .taken)) (c .before .before .row-at2 .ensures) refl in
-    let short = fitting-short (l .inv) (textOf p (c .before .before .row-at2 .result)) (textFrom p ws (a .h) (nextText (a .skip .now) (a .step) (l .k + 1))) cut (omega (arith, c .before .text-size .ensures .is, c .if1 .taken)) in
+    let cut = next-row p ws (s .pre .0 .1) (a .h) (omega (arith, w .top, c .before .before .before .loop-test .taken))
+    (c .before .before .row-at2 .ensures) refl in
+    let short = fitting-short (l .inv) (textOf p (c .before .before .row-at2 .result))
+    (textFrom p ws (a .h) (nextText (a .skip .now) (a .step) (l .k + 1))) cut (omega (arith, c .before .text-size .ensures .is, c .if1 .taken)) in
     puts-short (innerText p ws (a .h)) (a .out .now) (a .at) (l .inv .size) short
 
 put-text-requires : tie.Need-put-text-requires Inv-loop μ-loop
 put-text-requires c κs =
     let s = c .before .before .before .before .before .before .before .before .before .before .before .before .before in
     let a = s .args in
-    let w = walk (a .page .now) (a .table .now) (s .pre .0 .0) (s .pre .1 .0) (c .before .before .before .before .before .before .before .before .row-at .ensures) in
-    let r = row (a .page .now) (a .table .now) (s .pre .0 .0) (omega (arith, w .count, c .before .before .before .before .loop-test .taken)) (c .before .before .before .row-at2 .ensures) in
-    ((r .ordered, r .inside), omega (arith, c .before .before .text-size .ensures .is, c .before .if1 .left, c .before .before .before .before .before .loop .inv .room))
+    let w = walk (a .page .now) (a .table .now) (s .pre .0 .0) (s .pre .1 .0)
+    (c .before .before .before .before .before .before .before .before .row-at .ensures) in
+    let r = row (a .page .now) (a .table .now) (s .pre .0 .0) (omega (arith, w .count, c .before .before .before .before .loop-test .taken))
+    (c .before .before .before .row-at2 .ensures) in (
+      (r .ordered, r .inside),
+      omega (
+        arith,
+        c .before .before .text-size .ensures .is,
+        c .before .if1 .left,
+        c .before .before .before .before .before .loop .inv .room,
+      ),
+    )
 
 add-next-text-2 : tie.Need-add-next-text-2 Inv-loop μ-loop
 add-next-text-2 c =
     let s = c .before .before .before .before .before .before .before .before .before .before .before .before .before .before .before .before in
     let a = s .args in
-    let w = walk (a .page .now) (a .table .now) (s .pre .0 .0) (s .pre .1 .0) (c .before .before .before .before .before .before .before .before .before .before .before .row-at .ensures) in
+    let w = walk (a .page .now) (a .table .now) (s .pre .0 .0) (s .pre .1 .0)
+    (c .before .before .before .before .before .before .before .before .before .before .before .row-at .ensures) in
     omega (arith, w .count, c .before .before .before .before .before .before .before .before .before .before .before .before .before .before .shared-slice-known2 .given 0, c .before .before .before .before .before .before .before .loop-test .taken)
 
 next-text-requires-2 : tie.Need-next-text-requires-2 Inv-loop μ-loop
@@ -91,7 +107,8 @@ next-text-requires-2 c κs = c .before .before .before .before .before .before .
 loop-less : tie.Need-loop-less Inv-loop μ-loop
 loop-less c =
     let s = c .before .before .before .before .before .before .before .before .before .before .before .before .before .before .before .before .before in
-    let later = next-later (s .args .page .now) (s .args .table .now) (s .pre .0 .1) (c .before .before .before .before .before .before .before .before .before .loop .k + 1) in
+    let later = next-later (s .args .page .now) (s .args .table .now) (s .pre .0 .1)
+    (c .before .before .before .before .before .before .before .before .before .loop .k + 1) in
     omega (arith, c .next-text2 .ensures, c .before .before .before .before .before .before .before .before .loop-test .taken)
 
 loop-again : tie.Need-loop-again Inv-loop μ-loop
@@ -101,9 +118,18 @@ loop-again c =
     let p = a .page .now in
     let ws = a .table .now in
     let l = c .before .before .before .before .before .before .before .before .before .loop in
-    let w = walk p ws (s .pre .0 .0) (s .pre .1 .0) (c .before .before .before .before .before .before .before .before .before .before .before .before .row-at .ensures) in
-    let cut = next-row p ws (s .pre .0 .1) (a .h) (omega (arith, w .top, c .before .before .before .before .before .before .before .before .loop-test .taken)) (c .before .before .before .before .before .before .before .row-at2 .ensures) (c .next-text2 .ensures) in
-    fitting-more (l .inv) _ _ cut (c .before .before .before .put-text .ensures) (omega (arith, c .before .before .before .before .before .before .text-size .ensures .is, c .before .before .before .before .before .if1 .left, l .inv .room))
+    let w = walk p ws (s .pre .0 .0) (s .pre .1 .0)
+    (c .before .before .before .before .before .before .before .before .before .before .before .before .row-at .ensures) in
+    let cut = next-row p ws (s .pre .0 .1) (a .h)
+    (omega (arith, w .top, c .before .before .before .before .before .before .before .before .loop-test .taken))
+    (c .before .before .before .before .before .before .before .row-at2 .ensures) (c .next-text2 .ensures) in
+    fitting-more (l .inv) _ _ cut (c .before .before .before .put-text .ensures)
+    (omega (
+      arith,
+      c .before .before .before .before .before .before .text-size .ensures .is,
+      c .before .before .before .before .before .if1 .left,
+      l .inv .room,
+    ))
 
 same-length-2 : tie.Need-same-length-2 Inv-loop μ-loop
 same-length-2 c = c .before .loop .inv .size

@@ -22,8 +22,11 @@ abbrev μ-loop : tie.MeasureT-loop
 
 loop-holds : tie.Need-loop-holds Inv-loop μ-loop
 loop-holds c =
-    let a = c .before .before .before .before .before .before .args in
-    (search needs, texts-none (innerText (a .page .now) (a .table .now)) (a .handles .now) (a .ends .now) (a .out .now) (c .before .before .before .before .before .before .pre .1))
+    let a = c .before .before .before .before .before .before .args in (
+      search needs,
+      texts-none (innerText (a .page .now) (a .table .now)) (a .handles .now) (a .ends .now) (a .out .now)
+          (c .before .before .before .before .before .before .pre .1),
+    )
 
 cast-h : tie.Need-cast-h Inv-loop μ-loop
 cast-h c = omega (arith, c .shared-slice-known5 .given (c .before .before .loop .i))
@@ -31,14 +34,21 @@ cast-h c = omega (arith, c .shared-slice-known5 .given (c .before .before .loop 
 put-text-requires : tie.Need-put-text-requires Inv-loop μ-loop
 put-text-requires c κs =
     let a = c .before .before .before .before .before .before .before .before .before .before .args in
-    let s = tag-at (a .page .now) (a .table .now) (a .handles .now) (c .before .before .before .before .before .before .before .before .before .before .pre .0 .0) (c .before .before .before .loop .i) (c .before .before .loop-test .taken) in
-    ((s .sound-table .table, c .before .before .before .before .before .before .before .before .before .before .pre .0 .1), (s .below, c .before .before .before .loop .inv .1 .bytes .room))
+    let s = tag-at (a .page .now) (a .table .now) (a .handles .now)
+    (c .before .before .before .before .before .before .before .before .before .before .pre .0 .0) (c .before .before .before .loop .i)
+    (c .before .before .loop-test .taken) in (
+      (s .sound-table .table, c .before .before .before .before .before .before .before .before .before .before .pre .0 .1),
+      (s .below, c .before .before .before .loop .inv .1 .bytes .room),
+    )
 
 same-length : tie.Need-same-length Inv-loop μ-loop
-same-length c = ap length (c .before .before .before .before .refuse-texts .ensures .ends-left) ∙ length-replicate _ _ ∙ c .before .before .before .before .before .before .before .before .before .before .before .before .before .before .before .loop .inv .1 .ends .size
+same-length c = ap length (c .before .before .before .before .refuse-texts .ensures .ends-left) ∙ length-replicate _ _ ∙
+    c .before .before .before .before .before .before .before .before .before .before .before .before .before .before .before .loop .inv .1 .ends .size
 
 same-length-2 : tie.Need-same-length-2 Inv-loop μ-loop
-same-length-2 c = ap length (c .before .before .before .before .refuse-texts .ensures .out-left) ∙ length-replicate _ _ ∙ c .before .before .before .before .before .before .before .before .before .before .before .put-text .ensures .size ∙ c .before .before .before .before .before .before .before .before .before .before .before .before .before .before .before .loop .inv .1 .bytes .size
+same-length-2 c = ap length (c .before .before .before .before .refuse-texts .ensures .out-left) ∙ length-replicate _ _ ∙
+    c .before .before .before .before .before .before .before .before .before .before .before .put-text .ensures .size ∙
+    c .before .before .before .before .before .before .before .before .before .before .before .before .before .before .before .loop .inv .1 .bytes .size
 
 returns : tie.Need-returns Inv-loop μ-loop
 unfolding textsFound
@@ -47,21 +57,34 @@ returns c =
     let T = innerText (a .page .now) (a .table .now) in
     let t = c .before .before .before .before .before .before .before .before .before .before .before .before .before .before .before .loop .inv .1 in
     let w = c .before .before .before .before .refuse-texts .ensures in
-    let l = texts-short T (a .handles .now) t (c .before .before .before .before .before .before .before .before .before .before .before .before .before .before .loop-test .taken) (c .before .before .before .before .before .before .before .before .before .before .before .put-text .ensures .short (c .before .before .before .before .before .before .before .enum-told .given .1)) in
+    let l = texts-short T (a .handles .now) t
+    (c .before .before .before .before .before .before .before .before .before .before .before .before .before .before .loop-test .taken)
+    (c .before .before .before .before .before .before .before .before .before .before .before .put-text .ensures .short
+    (c .before .before .before .before .before .before .before .enum-told .given .1)) in
     record {
       is = rw (lt-ltb (length (a .out .now)) (length (each T (a .handles .now))) l) (w .is);
       ends-left = rw (w .is) (w .ends-left ∙ ap (λ (n : ℕ). replicate n 0) (t .ends .size));
-      out-left = rw (w .is) (w .out-left ∙ ap (λ (n : ℕ). replicate n 0) (c .before .before .before .before .before .before .before .before .before .before .before .put-text .ensures .size ∙ t .bytes .size));
+      out-left = rw (w .is) (w .out-left ∙ ap (λ (n : ℕ). replicate n 0)
+          (c .before .before .before .before .before .before .before .before .before .before .before .put-text .ensures .size ∙ t .bytes .size));
     }
 
 slice-write-ends : tie.Need-slice-write-ends Inv-loop μ-loop
-slice-write-ends c = omega (arith, c .before .before .before .before .before .before .before .before .loop-test .taken, c .before .before .before .before .before .before .before .before .before .before .before .before .before .before .before .before .pre .1, c .before .before .before .before .before .before .before .before .before .loop .inv .1 .ends .size)
+slice-write-ends c = omega (
+  arith,
+  c .before .before .before .before .before .before .before .before .loop-test .taken,
+  c .before .before .before .before .before .before .before .before .before .before .before .before .before .before .before .before .pre .1,
+  c .before .before .before .before .before .before .before .before .before .loop .inv .1 .ends .size,
+)
 
 loop-again : tie.Need-loop-again Inv-loop μ-loop
 loop-again c =
     let a = c .before .before .before .before .before .before .before .before .before .before .before .before .before .before .before .before .args in
-    let p = c .before .before .before .before .before .put-text .ensures .until _ (c .before .end .given .1) in
-    (search needs, texts-more (innerText (a .page .now) (a .table .now)) (a .handles .now) (c .before .before .before .before .before .before .before .before .before .loop .inv .1) (c .before .before .before .before .before .before .before .before .loop-test .taken) (p .0) (p .1))
+    let p = c .before .before .before .before .before .put-text .ensures .until _ (c .before .end .given .1) in (
+      search needs,
+      texts-more (innerText (a .page .now) (a .table .now)) (a .handles .now)
+          (c .before .before .before .before .before .before .before .before .before .loop .inv .1)
+          (c .before .before .before .before .before .before .before .before .loop-test .taken) (p .0) (p .1),
+    )
 
 same-length-3 : tie.Need-same-length-3 Inv-loop μ-loop
 same-length-3 c = c .before .loop .inv .1 .ends .size

@@ -25,11 +25,13 @@ cast-count c = omega (arith, c .shared-slice-known4 .given 0)
 
 put-texts-requires : tie.Need-put-texts-requires
 put-texts-requires c κs =
-    let s = c .before .before .before .before .before .before .before .before .before .before .before in ((s .pre .0, skips-none _ _ _ (simp (length-take, length-drop) (omega arith))), s .pre .1)
+    let s = c .before .before .before .before .before .before .before .before .before .before .before in
+    ((s .pre .0, skips-none _ _ _ (simp (length-take, length-drop) (omega arith))), s .pre .1)
 
 skip-texts-requires : tie.Need-skip-texts-requires
 skip-texts-requires c κs =
-    let s = c .before .before .before .before .before .before .before .before .before .before .before .before in ((s .pre .0, covers-each _ _ (simp (length-take, length-drop) (omega arith))), s .pre .1)
+    let s = c .before .before .before .before .before .before .before .before .before .before .before .before in
+    ((s .pre .0, covers-each _ _ (simp (length-take, length-drop) (omega arith))), s .pre .1)
 
 add-step : tie.Need-add-step
 add-step c =
@@ -52,11 +54,20 @@ skip-texts-requires-2 : tie.Need-skip-texts-requires-2
 skip-texts-requires-2 c κs =
     let s = c .before .before .before .before .before .before .before .before .before .before .before .before in
     let count : ℕ = countOf (s .args .table .now) in
-    let some : 0 < count = omega (arith, c .before .before .before .if2 .left) in
-    ((s .pre .0, covers-some count most some (omega arith) _ (simp (length-take, length-drop) (omega (arith, places-enough count most some (omega arith))))), s .pre .1)
+    let some : 0 < count = omega (arith, c .before .before .before .if2 .left) in (
+      (
+        s .pre .0,
+        covers-some count most some (omega arith) _
+            (simp (length-take, length-drop) (omega (arith, places-enough count most some (omega arith)))),
+      ),
+      s .pre .1,
+    )
 
 pub walk-texts-spec : {M : Type 1} → statement M
 walk-texts-spec =
     tie.close
-    (tie.spec shared-slice-read-count cast-count (λ c κs. search needs) (λ c. search needs) (λ c. search needs) (λ c. search needs) put-texts-requires (λ c. search needs) (λ c. search needs) (λ c. search needs) (λ c. search needs) (λ c. search needs) (λ c. search needs) skip-texts-requires (λ c. search needs) (λ c. search needs)
-    (λ c. search needs) (λ c. search needs) add-step (λ c. search needs) (λ c. search needs) add-filled (λ c. search needs) (λ c. search needs) part-skip-end-2 skip-texts-requires-2 (λ c. search needs) (λ c. search needs) (λ c. search needs))
+    (tie.spec shared-slice-read-count cast-count (λ c κs. search needs) (λ c. search needs) (λ c. search needs) (λ c. search needs) put-texts-requires
+    (λ c. search needs) (λ c. search needs) (λ c. search needs) (λ c. search needs) (λ c. search needs) (λ c. search needs) skip-texts-requires
+    (λ c. search needs) (λ c. search needs)
+    (λ c. search needs) (λ c. search needs) add-step (λ c. search needs) (λ c. search needs) add-filled (λ c. search needs) (λ c. search needs)
+    part-skip-end-2 skip-texts-requires-2 (λ c. search needs) (λ c. search needs) (λ c. search needs))
