@@ -276,7 +276,7 @@ pub fn expect_and_skip(s: &[u8], at: usize, q: u8) -> Expected
 }
 
 // The lesser of two.
-fn least(a: usize, b: usize) -> usize
+pub fn least(a: usize, b: usize) -> usize
     ensures { λ r. ⌜ r ≡ min a b ⌝ }
 {
     if a < b { a } else { b }
