@@ -11,7 +11,6 @@ use Rattle.rules.specs.Words.{Within}
 use Rattle.rules.specs.Lookup.{lookup, upTo}
 use Rattle.rules.specs.Refusals.{heldNumbers}
 use Rattle.rules.specs.declared.Node.{Node}
-use Rattle.rules.specs.declared.Held.{Held}
 use Rattle.rules.specs.declared.Held.the-variants.{Absent}
 use Rattle.rules.proofs.Within.{in-front, within-within}
 use Rattle.laws.proofs.CutLexer.{part-cut}

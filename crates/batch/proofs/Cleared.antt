@@ -1,10 +1,9 @@
 -- Words that are lent all zero, m for each handle: those of the first i handles are written, and the others are zero yet.
-use mathlib.Core.Path.{_≡_, refl, ap, sym, _∙_}
+use mathlib.Core.Path.{_≡_, ap, sym, _∙_}
 use mathlib.Core.List.{List, [], _∷_, _++_, append-assoc, append-nil}
 use Prim.Native.Nat.{ℕ, suc, _+_, _*_, _-_, _≤_, _<_}
 use native.Mathlib.Omega.{arith}
 use native.Mathlib.Nat.{mul-suc}
-use native.Mathlib.Numerals.{add-one}
 use borrow.Rule.Slice.PartMut.{putMid, post-is}
 use lib.ListN.{length, getD, take, drop, replicate, length-append, length-replicate, replicate-append-replicate}
 use lib.Seq.{take-at, drop-at, drop-drop, take-suc, take-all, length-take-le}
@@ -100,6 +99,9 @@ module _ (d w : List ℕ) (n : ℕ) (fits : n ≤ length d) (clears : w ≡ repl
 
   whole : cleared ≡ w ++ drop n d
   whole = rw (post-is 0 n d (omega arith))
+
+  pub cleared-all : cleared ≡ replicate n 0 ++ drop n d
+  cleared-all = whole ∙ ap (λ (x : List ℕ). x ++ drop n d) zero
 
   pub cleared-first : take (n - 0) cleared ≡ replicate n 0
   cleared-first =

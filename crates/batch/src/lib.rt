@@ -198,27 +198,8 @@ fn read_names(
     }
 }
 
-// The same. Where a quick test tells that no tag has any of the names, neither marks nor slots are made.
-fn note_names(
-    page: &[u8],
-    table: &[u32],
-    handles: &[u32],
-    names: &[u8],
-    ends: &[usize],
-    out: &mut [u32],
-)
-    requires { ⌜ Tags (now page) (now table) (now handles) × (now out ≡ replicate (3 * length (now ends) * length (now handles)) 0) ⌝ }
-    ensures { λ _. ⌜ now (out .exit) ≡ namesFound isWhite (now (page .entry)) (now (table .entry)) (now (handles .entry)) (now (names .entry)) (now (ends .entry)) ⌝ }
-{
-    let alike = attributes::begun_alike(names, ends);
-    let first = &names[0..alike];
-    if none_named(page, table, handles, first) {
-        return;
-    }
-    read_names(page, table, handles, first, names, ends, out);
-}
-
-// Writes what each tag holds for each name. All words are cleared at once: to clear each tag's took a call for few words.
+// Writes what each tag holds for each name. All words are cleared at once: to clear each tag's took a call for few words. Where a quick
+// test tells that no tag has any of the names, neither marks nor slots are made.
 fn put_names(
     page: &[u8],
     table: &[u32],
@@ -235,7 +216,12 @@ fn put_names(
 {
     let all = 3 * (ends.len() * handles.len());
     table::clear(&mut out[0..all]);
-    note_names(page, table, handles, names, ends, &mut out[0..all]);
+    let alike = attributes::begun_alike(names, ends);
+    let first = &names[0..alike];
+    if none_named(page, table, handles, first) {
+        return;
+    }
+    read_names(page, table, handles, first, names, ends, &mut out[0..all]);
 }
 
 // The attributes of tags for each name, or refusal 7.

@@ -73,6 +73,9 @@ module _ (white : ℕ → Bool) (p : List ℕ) (lo : ℕ) where
         let e : ℕ = skip isIdent p s in
         out (within-part p lo s e (length p) l (skip-ge isIdent p s) (skip-le isIdent p s h) (same-within k (part p s e) y))
 
+    all-unnamed : lo ≤ length p → Each (λ a. named white p k a ≡ true → ⊥) (attributes white p (length p) lo)
+    all-unnamed h = each-from (λ a. named white p k a ≡ true → ⊥) not-named (length p) lo (omega arith) h
+
     last-same : (r : Held) (xs : List Attribute) → Each (λ a. named white p k a ≡ true → ⊥) xs → lastOf white p k r xs ≡ r
     unfolding lastOf
     last-same r [] all = refl
@@ -84,9 +87,7 @@ module _ (white : ℕ → Bool) (p : List ℕ) (lo : ℕ) where
 
     -- the name stands nowhere from lo on: what was found before stays
     pub last-out : lo ≤ length p → (r : Held) → lastOf white p k r (attributes white p (length p) lo) ≡ r
-    last-out h r =
-        last-same r (attributes white p (length p) lo)
-        (each-from (λ a. named white p k a ≡ true → ⊥) not-named (length p) lo (omega arith) h)
+    last-out h r = last-same r (attributes white p (length p) lo) (all-unnamed h)
 
     first-none : (xs : List Attribute) → Each (λ a. named white p k a ≡ true → ⊥) xs → firstOf white p k xs ≡ Absent
     unfolding firstOf
@@ -102,4 +103,4 @@ module _ (white : ℕ → Bool) (p : List ℕ) (lo : ℕ) where
     unfolding lookupFrom
     lookup-out h =
         cases (λ r. r ≡ Absent) (isLast k) (λ t. last-out h Absent)
-        (λ t. first-none (attributes white p (length p) lo) (each-from (λ a. named white p k a ≡ true → ⊥) not-named (length p) lo (omega arith) h))
+        (λ t. first-none (attributes white p (length p) lo) (all-unnamed h))

@@ -1,6 +1,6 @@
 -- Laws of `from`, `only` and `each`.
 use mathlib.Core.Path.{_≡_, refl, ap, sym, _∙_}
-use mathlib.Core.Bool.{Bool, true, false, _&&_}
+use mathlib.Core.Bool.{Bool, true, false}
 use mathlib.Core.List.{List, [], _∷_, _++_, append-assoc, reverse, reverse-append, reverse-cons}
 use Prim.Native.Nat.{ℕ, zero, suc, _+_, _≤_, _<_}
 use native.Mathlib.Omega.{arith}
@@ -24,6 +24,22 @@ pub each-append : (f : ℕ → List ℕ) (xs ys : List ℕ) → each f (xs ++ ys
 unfolding each
 each-append f [] ys = refl
 each-append f (x ∷ xs) ys = rw (each-append f xs ys) (sym (append-assoc (f x) (each f xs) (each f ys)))
+
+-- what f gives for those that pass the test, and for what g gives
+pub each-only : (f : ℕ → List ℕ) (g : ℕ → Bool) (xs : List ℕ) → each f (only g xs) ≡ each (λ x. pick (g x) (f x) []) xs
+unfolding each only
+each-only f g [] = refl
+each-only f g (x ∷ xs) = go (g x) (each-only f g xs)
+  where
+    go : (b : Bool) → each f (only g xs) ≡ each (λ y. pick (g y) (f y) []) xs
+        → each f (pick b (x ∷ only g xs) (only g xs)) ≡ pick b (f x) [] ++ each (λ y. pick (g y) (f y) []) xs
+    go true e = ap (λ (r : List ℕ). f x ++ r) e
+    go false e = e
+
+pub each-each : (f g : ℕ → List ℕ) (xs : List ℕ) → each f (each g xs) ≡ each (λ x. each f (g x)) xs
+unfolding each
+each-each f g [] = refl
+each-each f g (x ∷ xs) = each-append f (g x) (each g xs) ∙ ap (λ (r : List ℕ). each f (g x) ++ r) (each-each f g xs)
 
 pub only-append : (f : ℕ → Bool) (xs ys : List ℕ) → only f (xs ++ ys) ≡ only f xs ++ only f ys
 unfolding only

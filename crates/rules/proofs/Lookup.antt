@@ -6,7 +6,7 @@ use native.Mathlib.Omega.{arith}
 use lib.ListN.{length, getD}
 use Rattle.rules.specs.Bytes.{isIdent, isQuote, other, is}
 use Rattle.rules.specs.Scan.{pick, skip, here, pass}
-use Rattle.rules.specs.Attributes.{inValue, quotedEnd, valueEnd, valueAt, valueOf, attributeAt, attributeNext, notClosing}
+use Rattle.rules.specs.Attributes.{inValue, valueAt, valueOf, attributeAt, attributeNext, notClosing}
 use Rattle.rules.specs.Lookup.{Inside, InsideAssigned, heldAs, attributes, named, firstOf, lastOf, isLast, lookupFrom}
 use Rattle.rules.specs.declared.Attribute.{Attribute}
 use Rattle.rules.specs.declared.Held.{Held}

@@ -8,7 +8,7 @@ use native.Mathlib.Omega.{arith}
 use lib.Dec.{eqb, leb}
 use lib.ListN.{length, take, drop, getD, length-append, length-take, take-append-drop, List·getD-append}
 use lib.Seq.{take-add, drop-drop, getD-append-add, getD-take, getD-drop}
-use Rattle.rules.specs.Scan.{pick, same, part}
+use Rattle.rules.specs.Scan.{same, part}
 use Rattle.rules.specs.Words.{Within, begins, ends, contains, gap, word, words, wordsFrom, times}
 use Rattle.rules.proofs.Pick.{cases}
 use Rattle.rules.proofs.Names.{same-is}

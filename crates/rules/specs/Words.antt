@@ -1,6 +1,6 @@
 -- Values as text: cut into words, and compared byte for byte.
 use Prim.Native.Nat.{ℕ, zero, suc, pred, _-_}
-use mathlib.Core.Bool.{Bool, true, false, not, _&&_, _||_}
+use mathlib.Core.Bool.{Bool, not, _&&_, _||_}
 use mathlib.Core.Path.{_≡_}
 use mathlib.Core.List.{List, [], _∷_, _++_}
 use lib.ListN.{length, take, drop}

@@ -13,7 +13,7 @@ ghost use Rattle.rules.specs.Places.{currentAt, expectAt};
 ghost use Rattle.rules.specs.Attributes.{inValue};
 ghost use Rattle.rules.specs.Words.{Within};
 ghost use Rattle.scan.specs.Marks.{whiteIn, Marked, Base};
-ghost use Rattle.scan.specs.Pairs.{NoPair};
+ghost use Rattle.scan.specs.Pairs.{None, pairAt};
 
 // By byte value, 16 to a line: 1 an identifier byte, 2 white, 4 closing, and sums of these.
 const MARKS: [u8; 256] = *b"\
@@ -175,7 +175,7 @@ pub fn find(s: &[u8], at: usize, q: u8) -> usize
 // Whether a stands at one of the 16 places from i on, and b d bytes after it. As in `any16`, all are compared at once.
 fn pair16(s: &[u8], i: usize, d: usize, a: u8, b: u8) -> bool
     requires { ⌜ i + d + 16 ≤ length (now s) ⌝ }
-    ensures { λ r. ⌜ (r ≡ false → NoPair (now (s .entry)) d a b i (i + 16)) ⌝ }
+    ensures { λ r. ⌜ (r ≡ false → None (pairAt (now (s .entry)) d a b) i (i + 16)) ⌝ }
 {
     let mut hit = false;
     let mut j = 0;
@@ -190,7 +190,7 @@ fn pair16(s: &[u8], i: usize, d: usize, a: u8, b: u8) -> bool
 // left to the end, the last 16 are tried; a pair outside the places asked for may count.
 fn may_pair(s: &[u8], from: usize, to: usize, d: usize, a: u8, b: u8) -> bool
     requires { ⌜ (to + d ≤ length (now s)) × (d + 16 ≤ length (now s)) ⌝ }
-    ensures { λ r. ⌜ (r ≡ false → NoPair (now (s .entry)) d a b from to) ⌝ }
+    ensures { λ r. ⌜ (r ≡ false → None (pairAt (now (s .entry)) d a b) from to) ⌝ }
 {
     let top = s.len() - d - 16;
     let mut i = from;

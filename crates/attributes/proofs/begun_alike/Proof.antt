@@ -2,10 +2,8 @@
 use borrow.Author.Needs.{needs}
 use borrow.Author.Count.{below-more}
 use native.Mathlib.Omega.{arith}
-use mathlib.Core.Path.{_≡_, ap, _∙_}
-use mathlib.Core.List.{List}
-use Prim.Native.Nat.{ℕ, _+_, _-_, _≤_, _<_}
-use lib.ListN.{length, getD, take}
+use Prim.Native.Nat.{ℕ, _-_, _≤_, _<_}
+use lib.ListN.{length, take}
 use Rattle.rules.specs.Words.{Within}
 use Rattle.attributes.specs.Slots.{nameAt}
 use Rattle.attributes.proofs.Alike.{alike-none, begins-alike}

@@ -2,7 +2,6 @@
 use borrow.Author.Needs.{needs}
 use native.Mathlib.Omega.{arith}
 use borrow.Author.Tests.{lt-ltb, le-ltb, ltb-true}
-use mathlib.Core.Path.{_≡_}
 use Prim.Native.Nat.{_/_, _%_, _<_}
 use lib.Dec.{eqb, ltb}
 use lib.ListN.{length}

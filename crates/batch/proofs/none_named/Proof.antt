@@ -1,7 +1,7 @@
 -- `batch::none_named` meets its contract: what all names begin with stands in the opening of none of the first i handles.
 use borrow.Author.Needs.{needs}
-use borrow.Author.Count.{below-more}
 use mathlib.Core.Path.{_≡_}
+use borrow.Author.Count.{below-more}
 use mathlib.Core.List.{List}
 use Prim.Native.Nat.{ℕ, _-_, _≤_, _<_}
 use native.Mathlib.Omega.{arith}
@@ -9,7 +9,6 @@ use lib.ListN.{length, getD}
 use Rattle.rules.specs.Scan.{part}
 use Rattle.rules.specs.Words.{Within}
 use Rattle.rules.specs.Table.{nodeAt}
-use Rattle.rules.proofs.Asking.{SoundTag}
 use Rattle.calls.proofs.Tags.{row-room, opening}
 use Rattle.batch.proofs.Handles.{tag-at}
 use Rattle.batch.proofs.none_named.Statement.{statement}
