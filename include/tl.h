@@ -30,6 +30,14 @@ extern "C" {
  * 3 comment), start, end, name start, name end, place after the opening '>', parent's handle plus 1, last descendant. */
 #define TL_ROW 8u
 
+/* The words of a table with so many rows. */
+#define TL_WORDS(rows) (TL_ROW + TL_ROW * (rows))
+
+/* The most nodes that a page of so many bytes has: (2 * bytes + 1) / 3, rounded down, in a form that never wraps. It is proved
+ * for every page, and for each length some page has as many (NodeBound in crates/maxnodes). So TL_WORDS(TL_MAX_NODES(bytes))
+ * words are enough to read any page of so many bytes, up to 65,536, and for some page no fewer are. */
+#define TL_MAX_NODES(bytes) ((bytes) / 3 * 2 + ((bytes) % 3 * 2 + 1) / 3)
+
 /* Reads a page into a table. *count: its nodes. Refused as 1, 2. */
 uint32_t tl_parse(const uint8_t *page, size_t page_len, uint32_t *table, size_t table_len, size_t *count);
 

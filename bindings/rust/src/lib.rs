@@ -70,7 +70,10 @@ pub const fn words_for(nodes: usize) -> usize {
     ROW + ROW * nodes
 }
 
-/// The most nodes that a page of `bytes` bytes has.
+/// The most nodes that a page of `bytes` bytes has: `(2 * bytes + 1) / 3`, rounded down.
+///
+/// It is proved for every page, and that for each length up to [`MAX_PAGE`] some page has as many (`NodeBound` in
+/// crates/maxnodes). So [`words_for`] of it is room for any page of that length, and no less would do for all of them.
 ///
 /// ```
 /// // a text of one byte, and then two bytes for each tag and one for each text
@@ -80,7 +83,6 @@ pub const fn words_for(nodes: usize) -> usize {
 /// # Ok::<(), tl_rattle::Refusal>(())
 /// ```
 pub const fn max_nodes(bytes: usize) -> usize {
-    // A node takes two bytes at least (`<>`), but a text one, and no text follows a text. This is argued and not proved;
-    // were it wrong, `parse` would be refused as 2.
+    // in a form that never wraps
     bytes / 3 * 2 + (2 * (bytes % 3) + 1) / 3
 }

@@ -1,6 +1,8 @@
 //! `sys` declares what include/tl.h does, argument for argument.
 
 use std::collections::BTreeMap;
+use std::io::Write;
+use std::process::{Command, Stdio};
 
 const HEADER: &str = include_str!("../../../include/tl.h");
 const SYS: &str = include_str!("../src/sys.rs");
@@ -70,6 +72,7 @@ fn the_numbers() {
     let defined: Vec<(&str, u32)> = HEADER
         .lines()
         .filter_map(|line| line.strip_prefix("#define ")?.split_once(' '))
+        .filter(|(name, _)| !name.contains('('))
         .map(|(name, value)| (name, value.trim_end_matches('u').parse().unwrap()))
         .collect();
     assert_eq!(
@@ -80,4 +83,39 @@ fn the_numbers() {
             ("TL_ROW", tl_rattle::sys::TL_ROW),
         ]
     );
+}
+
+/// The header's macros with arguments, worked out by a C compiler, beside the functions.
+#[test]
+fn the_room_for_a_page() {
+    let mut asserts = String::from("#include \"tl.h\"\n");
+    let lengths = (0..100).chain([65_535, tl_rattle::MAX_PAGE, usize::MAX - 1, usize::MAX]);
+    for bytes in lengths {
+        let nodes = tl_rattle::max_nodes(bytes);
+        asserts += &format!("_Static_assert(TL_MAX_NODES((size_t){bytes}u) == {nodes}u, \"\");\n");
+    }
+    for nodes in [0, 1, 3, 43_691] {
+        let words = tl_rattle::words_for(nodes);
+        asserts += &format!("_Static_assert(TL_WORDS({nodes}u) == {words}u, \"\");\n");
+    }
+    let include = concat!(env!("CARGO_MANIFEST_DIR"), "/../../include");
+    let mut compiler = Command::new("cc")
+        .args([
+            "-std=c11",
+            "-Wall",
+            "-Werror",
+            "-fsyntax-only",
+            "-I",
+            include,
+            "-x",
+            "c",
+            "-",
+        ])
+        .stdin(Stdio::piped())
+        .spawn()
+        .expect("there is a C compiler");
+    let mut source = compiler.stdin.take().expect("it reads the program");
+    source.write_all(asserts.as_bytes()).unwrap();
+    drop(source);
+    assert!(compiler.wait().unwrap().success());
 }

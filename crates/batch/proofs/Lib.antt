@@ -5,7 +5,6 @@ pub mod Parts
 pub mod Names
 pub mod Cleared
 pub mod Room
-pub mod Stores
 pub mod Fills
 pub mod Puts
 pub mod Fitting

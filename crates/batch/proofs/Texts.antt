@@ -7,9 +7,8 @@ use lib.ListN.{length, drop, getD, set, drop-of-length-le}
 use Rattle.rules.specs.Lists.{each}
 use Rattle.rules.specs.Buffers.{Wrote}
 use Rattle.rules.specs.Batch.{endsFrom}
-use Rattle.rules.proofs.Buffers.{Left, left-all, left-room, left-more, left-none}
+use Rattle.rules.proofs.Buffers.{wrote-sets, Left, left-all, left-room, left-more, left-none}
 use Rattle.batch.proofs.Handles.{next, each-next, each-end, written}
-use Rattle.batch.proofs.Stores.{wrote-sets}
 use Rattle.batch.proofs.Fitting.{Fitting, fitting-all, fitting-short, fitting-more, fitting-fits, fitting-none}
 
 module _ (T : ℕ → List ℕ) where

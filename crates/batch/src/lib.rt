@@ -20,7 +20,8 @@ ghost use Rattle.attributes.specs.Slots.{Alike};
 ghost use Rattle.calls.specs.Calls.{Filled};
 ghost use Rattle.batch.specs.Batch.{tagsChecked, Tags, unless, FilledBoth, Unnamed, TextsLeft, Passes, Covers, Skips, nextText, Puts};
 
-// The most rows that a page has, and rows enough for a short one, for which less is cleared.
+// The most rows that a reading makes (`most` of NodeBound in crates/maxnodes), and rows enough for a short page, for which less
+// is cleared.
 const ROWS: usize = 43691;
 
 const FEW: usize = 4096;

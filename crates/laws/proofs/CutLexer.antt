@@ -255,11 +255,11 @@ nameTo (Doctype h n) = 0
 nameTo (Tag a e n s) = e
 nameTo (Nothing n) = 0
 
--- what holds of the places in an item that begins at x
+-- what holds of the places in an item that begins at x; a tag or a comment has two bytes or more
 abbrev pub Formed : ℕ → Item → Type 0
 Formed x (Text e) = Unit {0}
 Formed x (Close a e n) = (a ≤ e) × (e ≤ n)
-Formed x (Comment a e n) = (a ≤ e) × (e ≤ n)
+Formed x (Comment a e n) = (a ≤ e) × (e ≤ n) × (suc x < n)
 Formed x (Doctype h n) = Unit {0}
 Formed x (Tag a e n s) = (x < a) × (a ≤ e) × (e < n)
 Formed x (Nothing n) = Unit {0}
@@ -452,22 +452,24 @@ module _ (white : ℕ → Bool) where
           (λ t. let i : c < length p = here-in (is 62) p c _ t refl in (l, skip-scans isIdent .grows p at h, omega (arith, a)))
           (λ t. tt)
 
-  bang-formed : (x : ℕ) (p : List ℕ) (q : ℕ) → q ≤ length p → Formed x (bang white p q)
+  bang-formed : (x : ℕ) (p : List ℕ) (q : ℕ) → x < q → q < length p → Formed x (bang white p q)
   unfolding bang
-  bang-formed x p q h =
+  bang-formed x p q l h =
       cases (Formed x) (here (is 45) p (pass p q) && here (is 45) p (suc (pass p q)))
       (λ t. go (commentEnd (length p) p (pass p q)) (comment-end (length p) p (pass p q)))
       (λ t. cases (Formed x) (sameLower (part p (pass p q) (skip isIdent p (pass p q))) doctypeName) (λ u. tt) (λ u. tt))
     where
       go : (e : ℕ) → Ends p (pass p q) e → Formed x (commentTo p (pred q) e)
-      go e (inl z) = rw z (omega arith, omega arith)
-      go e (inr m) = rw (ne-eqb e 0 (λ z. omega (arith, m .0))) (omega (arith, m .0, m .1), omega arith)
+      go e (inl z) = rw z (omega arith, omega arith, omega arith)
+      go e (inr m) = rw (ne-eqb e 0 (λ z. omega (arith, m .0))) (omega (arith, m .0, m .1), omega arith, omega (arith, m .0, m .1))
 
   markup-formed : (x : ℕ) (p : List ℕ) (q : ℕ) → x < q → q ≤ length p → Formed x (markup white p q)
   unfolding markup closing
   markup-formed x p q l h =
       cases (Formed x) (here (is 47) p q) (λ t. (omega arith, omega (arith, skip-scans (other 62) .within p (pass p q) (omega arith))))
-      (λ t. cases (Formed x) (here (is 33) p q) (λ u. bang-formed x p q h) (λ u. cases (Formed x) (ltb q (length p)) (λ v. tag-formed x p q l h) (λ v. tt)))
+      (λ t. cases (Formed x) (here (is 33) p q)
+      (λ u. bang-formed x p q l (here-in (is 33) p q _ u refl))
+      (λ u. cases (Formed x) (ltb q (length p)) (λ v. tag-formed x p q l h) (λ v. tt)))
 
   pub item-formed : (p : List ℕ) (at : ℕ) → at < length p → Formed at (itemAt white p at)
   unfolding itemAt

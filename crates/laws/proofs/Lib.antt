@@ -4,6 +4,7 @@ pub mod CutItem
 pub mod CutLexer
 pub mod Nodes
 pub mod Lockstep
+pub mod Step
 pub mod Nested
 pub mod Tree
 pub mod Soundness

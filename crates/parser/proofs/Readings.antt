@@ -1,16 +1,15 @@
 -- What holds of every reading of a page, and so of the item that a step puts.
 use mathlib.Core.Path.{_≡_}
 use mathlib.Core.Bool.{Bool}
-use mathlib.Core.List.{List, [], _∷_}
+use mathlib.Core.List.{List}
 use Prim.Native.Nat.{ℕ, zero, suc, _-_, _≤_, _<_}
 use native.Mathlib.Omega.{arith}
 use borrow.Author.Tests.{ltb-true}
 use lib.Dec.{ltb}
-use lib.ListN.{length, length-append, length-set}
-use Rattle.rules.specs.Scan.{part, same}
+use lib.ListN.{length}
 use Rattle.rules.specs.Names.{isVoid}
 use Rattle.rules.specs.Lexer.{next, itemAt}
-use Rattle.rules.specs.Reader.{Reading, node, begin, closeInto, put, step, steps}
+use Rattle.rules.specs.Reader.{Reading, begin, put, step, steps}
 use Rattle.rules.specs.Refusals.{pageLimit}
 use Rattle.rules.specs.declared.Item.{Item}
 use Rattle.rules.specs.declared.Item.the-variants.{Text, Close, Comment, Doctype, Tag, Nothing}
@@ -19,30 +18,13 @@ use Rattle.rules.proofs.Table.{filled-size}
 use Rattle.rules.proofs.Pick.{cases}
 use Rattle.laws.proofs.CutLexer.{Formed, item-grows, item-formed}
 use Rattle.laws.proofs.Lockstep.{put-at}
+use Rattle.laws.proofs.Step.{adds-few, put-count}
 use Rattle.laws.proofs.Soundness.{put-fine}
 use Rattle.tree.specs.Held.{Held, Room, Fits, Inner}
 use Rattle.tree.proofs.Rows.{inner-below, innermost}
 use Rattle.parser.specs.Parsing.{Good}
 
--- ---- an item adds at most one node
-
-close-few : (p : List ℕ) (r : Reading) (a e n : ℕ) (hs : List ℕ) → length (closeInto isVoid p r a e n hs .nodes) ≤ suc (length (r .nodes))
-unfolding closeInto
-close-few p r a e n [] = omega arith
-close-few p r a e n (h ∷ hs) =
-    cases (λ (s : Reading). length (s .nodes) ≤ suc (length (r .nodes)))
-    (same (part p (node (r .nodes) h .name) (node (r .nodes) h .stop)) (part p a e)) (λ t. simp length-set (omega arith)) (λ t. omega arith)
-
-put-few : (p : List ℕ) (r : Reading) (i : Item) → length (put isVoid p r i .nodes) ≤ suc (length (r .nodes))
-unfolding put
-put-few p r (Text e) = simp length-append (omega arith)
-put-few p r (Close a e n) = close-few p r a e n (r .opens)
-put-few p r (Comment a e n) = simp length-append (omega arith)
-put-few p r (Doctype h n) = omega arith
-put-few p r (Tag a e n s) = simp length-append (omega arith)
-put-few p r (Nothing n) = omega arith
-
--- ---- its places lie in the page
+-- ---- the places of an item lie in the page
 
 fits-of : (n at : ℕ) (i : Item) → Formed at i → at < next i → next i ≤ n → Fits n at i
 fits-of n at (Text e) f l m = (omega arith, m)
@@ -69,7 +51,7 @@ module _ (white : ℕ → Bool) (p : List ℕ) where
       let a : put isVoid p R i .at ≡ next i = put-at white isVoid p R i in
       record {
         fine = put-fine white isVoid p R i (g .0) (item-formed white p (R .at) l) (G .fine);
-        few = omega (arith, put-few p R i, G .few, g .0, a);
+        few = omega (arith, put-count isVoid p R i, adds-few i, G .few, g .0, a);
         within = omega (arith, g .1, a);
       }
 

@@ -9,8 +9,8 @@ use native.Mathlib.Omega.{arith}
 use lib.ListN.{length, take, set, length-set}
 use lib.Seq.{take-all, take-suc-set}
 use Rattle.records.specs.Records.{numberBefore, joined, numbersAt}
-use Rattle.records.specs.declared.Number.{Number}
-use Rattle.records.specs.declared.Number.the-variants.{Read, Bad as NoNumber}
+use Rattle.decimal.specs.declared.Number.{Number}
+use Rattle.decimal.specs.declared.Number.the-variants.{Read, Bad as NoNumber}
 
 joined-none : (x : Option (List ℕ × ℕ)) → x ≡ joined [] x
 joined-none none = refl

@@ -1,33 +1,27 @@
 -- A number and the byte after it lie in the input, and so does a record.
 use mathlib.Core.Path.{_≡_, refl, sym, _∙_}
 use mathlib.Core.Bool.{Bool, true, false}
-use mathlib.Core.List.{List, []}
+use mathlib.Core.List.{List}
 use mathlib.Core.Option.{Option, none, some}
-use Prim.Native.Nat.{ℕ, zero, suc, _+_, _-_, _≤_, _<_}
+use Prim.Native.Nat.{ℕ, zero, suc, _+_, _≤_, _<_}
 use native.Mathlib.Omega.{arith}
 use lib.ListN.{length}
 use Rattle.rules.specs.Bytes.{is}
-use Rattle.rules.specs.Scan.{pick, skip, here, part}
+use Rattle.rules.specs.Scan.{pick, here}
 use Rattle.rules.specs.Places.{expectAt}
 use Rattle.rules.specs.declared.Expected.{Expected}
 use Rattle.rules.specs.declared.Expected.the-variants.{Next, Other}
 use Rattle.rules.proofs.Places.{was-next, here-below}
-use Rattle.records.specs.Records.{isDigit, valueFrom, isNumber, numberAt, passed, followed, numberBefore, more, numbersAt, then, thenAll, headOf, recordAt}
-use Rattle.records.specs.declared.Number.{Number}
-use Rattle.records.specs.declared.Number.the-variants.{Read, Bad as NoNumber}
+use Rattle.decimal.proofs.Numbers.{number-after}
+use Rattle.decimal.specs.Digits.{numberAt}
+use Rattle.records.specs.Records.{passed, followed, numberBefore, more, numbersAt, then, thenAll, headOf, recordAt}
+use Rattle.decimal.specs.declared.Number.{Number}
+use Rattle.decimal.specs.declared.Number.the-variants.{Read, Bad as NoNumber}
 use Rattle.records.specs.declared.Head.{Head}
 use Rattle.records.specs.declared.Record.{Record}
 use Rattle.records.specs.declared.Record.the-variants.{Whole, Bad as NoRecord}
 
 module _ (s : List ℕ) (at : ℕ) where
-  number-after : (n end : ℕ) → numberAt s at ≡ Read n end → at ≤ end
-  unfolding numberAt
-  number-after n end e = go (isNumber (skip isDigit s at - at) (valueFrom 0 (part s at (skip isDigit s at)))) e
-    where
-      go : (b : Bool) → pick b (Read (valueFrom 0 (part s at (skip isDigit s at))) (skip isDigit s at)) NoNumber ≡ Read n end → at ≤ end
-      go true f = let p : skip isDigit s at ≡ end = cc in omega arith
-      go false f = let z : _≡_ {A = ℕ} 0 1 = cc in absurd (omega arith)
-
   pub before-within : (q n place : ℕ) → numberBefore q s at ≡ Read n place → (at < place) × (place ≤ length s)
   unfolding numberBefore
   before-within q n place e = go (numberAt s at) refl e
@@ -41,7 +35,7 @@ module _ (s : List ℕ) (at : ℕ) where
       expected m end l Other g f = let z : _≡_ {A = ℕ} 0 1 = cc in absurd (omega arith)
 
       go : (x : Number) → numberAt s at ≡ x → followed q s x ≡ Read n place → (at < place) × (place ≤ length s)
-      go (Read m end) g f = expected m end (number-after m end g) (expectAt q s end) refl f
+      go (Read m end) g f = expected m end (number-after s at m end g) (expectAt q s end) refl f
       go NoNumber g f = let z : _≡_ {A = ℕ} 0 1 = cc in absurd (omega arith)
 
 -- several numbers end after they start

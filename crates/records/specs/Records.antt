@@ -1,17 +1,16 @@
 -- A list of recorded questions: a record is five numbers on a line, some bytes, and a line feed.
-use Prim.Native.Nat.{ℕ, zero, suc, _+_, _-_, _*_}
-use mathlib.Core.Bool.{Bool, _&&_}
+use Prim.Native.Nat.{ℕ, zero, suc, _+_}
 use mathlib.Core.List.{List, [], _∷_, _++_}
 use mathlib.Core.Option.{Option, none, some}
-use lib.Dec.{leb, ltb}
 use lib.ListN.{getD}
-use Rattle.rules.specs.Bytes.{between, is}
-use Rattle.rules.specs.Scan.{pick, skip, here, part}
+use Rattle.rules.specs.Bytes.{is}
+use Rattle.rules.specs.Scan.{pick, here}
 use Rattle.rules.specs.Places.{expectAt}
 use Rattle.rules.specs.declared.Expected.{Expected}
 use Rattle.rules.specs.declared.Expected.the-variants.{Next, Other}
-use Rattle.records.specs.declared.Number.{Number}
-use Rattle.records.specs.declared.Number.the-variants.{Read, Bad as NoNumber}
+use Rattle.decimal.specs.Digits.{numberAt}
+use Rattle.decimal.specs.declared.Number.{Number}
+use Rattle.decimal.specs.declared.Number.the-variants.{Read, Bad as NoNumber}
 use Rattle.records.specs.declared.Place.{Place}
 use Rattle.records.specs.declared.Place.the-variants.{To as Until, Bad as NoPlace}
 use Rattle.records.specs.declared.Head.{Head}
@@ -19,27 +18,6 @@ use Rattle.records.specs.declared.Record.{Record}
 use Rattle.records.specs.declared.Record.the-variants.{Whole, Bad as NoRecord}
 
 -- ---- a number
-
-abbrev pub isDigit : ℕ → Bool
-isDigit b = between 48 57 b
-
--- the number that digits say, after the number n
-unfoldable pub valueFrom : ℕ → List ℕ → ℕ
-valueFrom n [] = n
-valueFrom n (d ∷ ds) = valueFrom (n * 10 + (d - 48)) ds
-
--- numbers are below 2^32
-abbrev pub limit : ℕ
-limit = 4294967296
-
--- k digits say the number n
-abbrev pub isNumber : ℕ → ℕ → Bool
-isNumber k n = leb 1 k && leb k 10 && ltb n limit
-
-unfoldable pub numberAt : List ℕ → ℕ → Number
-numberAt s at =
-    let end = skip isDigit s at in
-    let n = valueFrom 0 (part s at end) in pick (isNumber (end - at) n) (Read n end) NoNumber
 
 -- the number n, if something expected stands after it
 abbrev pub passed : ℕ → Expected → Number

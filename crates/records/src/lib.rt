@@ -1,25 +1,15 @@
 // A list of recorded questions, and the lines of their answers. A record is a line of five numbers, the last of which says how
 // many bytes follow; then these bytes, and a line feed.
+use decimal::Number;
 use rules::Expected;
 ghost use mathlib.Core.Path.{_≡_};
 ghost use mathlib.Core.List.{_∷_, _++_};
-ghost use Prim.Native.Nat.{_-_, min};
 ghost use lib.ListN.{length};
-ghost use Rattle.rules.specs.Scan.{skip};
 ghost use Rattle.lines.specs.Decimal.{decimal};
 ghost use Rattle.lines.specs.Lines.{field};
 ghost use Rattle.lines.specs.Writes.{Writes};
-ghost use Rattle.records.specs.Records.{isDigit, valueFrom, limit, numberAt, numberBefore, numbersAt, readInto, recordAt};
+ghost use Rattle.records.specs.Records.{numberBefore, numbersAt, readInto, recordAt};
 ghost use Rattle.records.specs.Printed.{fields, line};
-
-// Numbers are below 2^32.
-const LIMIT: u64 = 4294967296;
-
-// A number, and the place after it.
-enum Number {
-    Read(u32, usize),
-    Bad,
-}
 
 // The five numbers of a record: what is asked, three more, and how many bytes follow.
 pub struct Head {
@@ -44,76 +34,11 @@ pub enum Place {
 
 // ---- reading a record
 
-fn is_digit(b: u8) -> bool
-    ensures { λ r. ⌜ r ≡ isDigit b ⌝ }
-{
-    (b'0' <= b) & (b <= b'9')
-}
-
-// The end of the digits at the place.
-fn skip_digits(s: &[u8], at: usize) -> usize
-    ensures { λ r. ⌜ r ≡ skip isDigit (now (s .entry)) at ⌝ }
-{
-    let mut i = at;
-    while i < s.len() {
-        if is_digit(s[i]) {
-            i += 1;
-        } else {
-            return i;
-        }
-    }
-    i
-}
-
-fn digit(b: u8) -> u64
-    ensures { λ r. ⌜ r ≡ b - 48 ⌝ }
-{
-    if b < b'0' { 0 } else { (b - b'0') as u64 }
-}
-
-fn capped(n: u64) -> u64
-    ensures { λ r. ⌜ r ≡ min n limit ⌝ }
-{
-    if n < LIMIT { n } else { LIMIT }
-}
-
-// The number that digits say, or 2^32 if it is not below that.
-fn value(digits: &[u8]) -> u64
-    ensures { λ r. ⌜ r ≡ min (valueFrom 0 (now (digits .entry))) limit ⌝ }
-{
-    let mut n: u64 = 0;
-    let mut i = 0;
-    while i < digits.len() {
-        n = capped(n * 10 + digit(digits[i]));
-        i += 1;
-    }
-    n
-}
-
-// The number at the place: 1 to 10 digits, below 2^32.
-fn number_at(s: &[u8], at: usize) -> Number
-    ensures { λ r. ⌜ r ≡ numberAt (now (s .entry)) at ⌝ }
-{
-    let end = skip_digits(s, at);
-    let size = end - at;
-    if size == 0 {
-        return Number::Bad;
-    }
-    if 10 < size {
-        return Number::Bad;
-    }
-    let n = value(&s[at..end]);
-    if n < LIMIT {
-        return Number::Read(n as u32, end);
-    }
-    Number::Bad
-}
-
 // The number at the place, and the byte q after it.
 fn number_before(s: &[u8], at: usize, q: u8) -> Number
     ensures { λ r. ⌜ r ≡ numberBefore q (now (s .entry)) at ⌝ }
 {
-    let Number::Read(n, end) = number_at(s, at) else {
+    let Number::Read(n, end) = decimal::number_at(s, at) else {
         return Number::Bad;
     };
     let Expected::Next(next) = scan::expect_and_skip(s, end, q) else {

@@ -1,6 +1,6 @@
 pub mod Pick
-pub mod Runs
 pub mod Places
+pub mod Runs
 pub mod Names
 pub mod Table
 pub mod Sound

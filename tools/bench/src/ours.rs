@@ -6,7 +6,7 @@ pub const SCAN: u32 = 0;
 pub const CLOSED: u32 = 1;
 
 /// Rows enough for any page of 65,536 bytes, words for as many finds, and bytes for the texts of all rows.
-const NODES: usize = 43_691;
+const NODES: usize = tl_rattle::max_nodes(tl_rattle::MAX_PAGE);
 const TEXTS: usize = 256 << 20;
 
 /// Several names as one text, and where each ends.

@@ -174,8 +174,23 @@ impl Run<'_, '_> {
         self.found.answers += words.len() as u64 / 8;
         let tl = rows.map(|rows| (rows, expected));
         check(&mut self.found, || Question::Nodes, ours, &paper, tl);
+        self.max_nodes(reading.rows.len());
         self.version(reading);
         self.small_table(words.len());
+    }
+
+    /// The nodes have been compared; on no side are they more than the page's length allows.
+    fn max_nodes(&mut self, nodes: usize) {
+        let most = model::max_nodes(self.asked.page.len());
+        self.found.densest += (nodes == most) as u64;
+        if nodes > most {
+            self.found.differ(Difference {
+                question: Question::MaxNodes,
+                ours: format!("{nodes}"),
+                paper: format!("at most {most}"),
+                tl: None,
+            });
+        }
     }
 
     /// The library's version stands in its table, which has been compared.

@@ -54,6 +54,8 @@ pub struct Findings {
     pub listed: u64,
     /// pages that are not UTF-8
     pub not_utf8: u64,
+    /// pages that have the most nodes that so many bytes may have
+    pub densest: u64,
     /// tags in which a name other than `id` and `class` is repeated
     pub repeating_tags: u64,
     pub departures: [u64; DEPARTURES.len()],

@@ -185,7 +185,7 @@ fn input(kind: Kind, number: u64, random: &mut Random) -> Input {
         Kind::ManyRows => {
             // around the most rows that a page has, those of a short page to the calls on a list, and more
             let rows = match number % 4 {
-                0 => 43_691 - 2 + random.below(5),
+                0 => model::max_nodes(PAGE_LIMIT) - 2 + random.below(5),
                 1 | 2 => 4_096 - 2 + random.below(5),
                 _ => 40_000 + random.below(20_000),
             };

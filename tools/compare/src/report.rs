@@ -22,6 +22,7 @@ pub struct Report {
     lists: u64,
     listed: u64,
     not_utf8: u64,
+    densest: u64,
     repeating_tags: u64,
     departures: [u64; DEPARTURES.len()],
     differences: u64,
@@ -38,6 +39,7 @@ impl Report {
         self.lists += found.lists;
         self.listed += found.listed;
         self.not_utf8 += found.not_utf8;
+        self.densest += found.densest;
         self.repeating_tags += found.repeating_tags;
         for (sum, more) in self.departures.iter_mut().zip(found.departures) {
             *sum += more;
@@ -69,6 +71,7 @@ impl Report {
         self.lists += other.lists;
         self.listed += other.listed;
         self.not_utf8 += other.not_utf8;
+        self.densest += other.densest;
         self.repeating_tags += other.repeating_tags;
         for (sum, more) in self.departures.iter_mut().zip(other.departures) {
             *sum += more;
@@ -127,6 +130,10 @@ impl Report {
             self.repeating_tags
         );
         println!("{:>12} pages that are not UTF-8", self.not_utf8);
+        println!(
+            "{:>12} pages with the most nodes that so many bytes may have",
+            self.densest
+        );
         println!();
         for (kind, input, difference) in &self.shown {
             show(*kind, input, difference);

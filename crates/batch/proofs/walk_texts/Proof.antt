@@ -5,14 +5,16 @@ use native.Mathlib.Nat.{div-le-self}
 use Prim.Native.Nat.{ℕ, _+_, _-_, _/_, _<_}
 use lib.ListN.{length, length-take, length-drop}
 use Rattle.rules.specs.Sound.{countOf}
+use Rattle.rules.specs.Refusals.{pageLimit}
 use Rattle.rules.proofs.Sound.{sound-fits}
+use Rattle.maxnodes.specs.Bound.{maxNodes}
 use Rattle.batch.proofs.Skipping.{skips-none, covers-each, covers-some, places-enough}
 use Rattle.batch.proofs.walk_texts.Statement.{statement}
 use Rattle.batch.proofs.walk_texts.Tie as tie
 
--- the most rows that a page has
+-- the most rows that a reading makes
 abbrev most : ℕ
-most = 43691
+most = maxNodes pageLimit
 
 shared-slice-read-count : tie.Need-shared-slice-read-count
 shared-slice-read-count c =

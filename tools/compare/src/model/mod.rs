@@ -22,6 +22,11 @@ pub use table::{reading_of, words_of};
 pub const PAGE_LIMIT: usize = 65_536;
 pub const SELECTOR_LIMIT: usize = 128;
 
+/// The most nodes that a page of so many bytes has (request U13).
+pub fn max_nodes(bytes: usize) -> usize {
+    (2 * bytes + 1) / 3
+}
+
 /// Start and end (exclusive) of a part of a page or selector.
 pub type Span = (usize, usize);
 

@@ -1,13 +1,13 @@
--- `records::value` meets its contract. The invariant: with the digits left, n says the same number, both kept at 2^32.
+-- `decimal::value` meets its contract. The invariant: with the digits left, n says the same number, both kept at 2^32.
 use borrow.Author.Needs.{needs}
 use Prim.Native.Nat.{_≤_, _-_, min}
 use native.Mathlib.Omega.{arith}
 use mathlib.Core.Path.{_≡_, refl, _∙_}
 use lib.ListN.{length, drop, drop-of-length-le}
-use Rattle.records.specs.Records.{valueFrom, limit}
-use Rattle.records.proofs.Numbers.{digit-more}
-use Rattle.records.proofs.value.Statement.{statement}
-use Rattle.records.proofs.value.Tie as tie
+use Rattle.decimal.specs.Digits.{valueFrom, limit}
+use Rattle.decimal.proofs.Numbers.{digit-more}
+use Rattle.decimal.proofs.value.Statement.{statement}
+use Rattle.decimal.proofs.value.Tie as tie
 
 abbrev Inv-loop : tie.InvT-loop
 Inv-loop digits n₀ i₀ n i =
@@ -24,8 +24,11 @@ add-capped c = omega (arith, c .before .shared-slice-known2 .given (c .before .b
 
 loop-again : tie.Need-loop-again Inv-loop μ-loop
 loop-again c =
-    let l = c .before .before .before .before .loop in
-    let more = digit-more (c .before .before .before .before .before .before .args .digits .now) (l .i) (l .n) (c .before .digit .result) (c .capped .result) (omega arith) (c .before .digit .ensures) (c .capped .ensures) in
+    let d = c .before .digit in
+    let turn = c .before .before .before .before in
+    let l = turn .loop in
+    let ds = turn .before .before .args .digits .now in
+    let more = digit-more ds (l .i) (l .n) (d .result) (c .capped .result) (omega arith) (d .ensures) (c .capped .ensures) in
     (search needs, omega (arith, c .capped .ensures), l .inv .2 ∙ more)
 
 returns : tie.Need-returns Inv-loop μ-loop

@@ -1,13 +1,13 @@
--- `records::skip_digits` meets its contract: the run from `at` is the run from i.
+-- `decimal::skip_digits` meets its contract: the run from `at` is the run from i.
 use borrow.Author.Needs.{needs}
 use mathlib.Core.Path.{_≡_, refl}
 use Prim.Native.Nat.{_-_}
 use lib.ListN.{length}
 use Rattle.rules.specs.Scan.{skip}
 use Rattle.rules.proofs.Runs.{again, stopped, ended, answered}
-use Rattle.records.specs.Records.{isDigit}
-use Rattle.records.proofs.skip_digits.Statement.{statement}
-use Rattle.records.proofs.skip_digits.Tie as tie
+use Rattle.decimal.specs.Digits.{isDigit}
+use Rattle.decimal.proofs.skip_digits.Statement.{statement}
+use Rattle.decimal.proofs.skip_digits.Tie as tie
 
 abbrev Inv-loop : tie.InvT-loop
 Inv-loop s at i₀ i = skip isDigit s at ≡ skip isDigit s i

@@ -1,4 +1,4 @@
--- `records::number_at` meets its contract: by the tests that led to each return.
+-- `decimal::number_at` meets its contract: by the tests that led to each return.
 use borrow.Author.Needs.{needs}
 use native.Mathlib.Omega.{arith}
 use mathlib.Core.Path.{_≡_, ap}
@@ -7,10 +7,10 @@ use lib.ListN.{drop, length-drop}
 use borrow.Author.Tests.{lt-leb, le-leb, lt-ltb, le-ltb}
 use Rattle.rules.specs.Scan.{skip, part}
 use Rattle.rules.proofs.Runs.{span-le}
-use Rattle.records.specs.Records.{isDigit, valueFrom, limit, numberAt}
-use Rattle.records.specs.declared.Number.the-variants.{Read}
-use Rattle.records.proofs.number_at.Statement.{statement}
-use Rattle.records.proofs.number_at.Tie as tie
+use Rattle.decimal.specs.Digits.{isDigit, valueFrom, limit, numberAt}
+use Rattle.decimal.specs.declared.Number.the-variants.{Read}
+use Rattle.decimal.proofs.number_at.Statement.{statement}
+use Rattle.decimal.proofs.number_at.Tie as tie
 
 -- the digits lie in the input
 part-value-end : tie.Need-part-value-end
