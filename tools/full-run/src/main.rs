@@ -109,7 +109,7 @@ fn run(program: &str) -> Result<(), String> {
         }
     }
     for length in 0..=MAX_PAGE {
-        // each way for the lengths that are tested by hand too, else one of them
+        // the lengths of the examples in every way, any other in one of them
         let all = inputs(length);
         let ways = match length {
             0 | 1 | 2 | 3 | 7 | MAX_PAGE => &all[..],
