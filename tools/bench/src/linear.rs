@@ -9,7 +9,9 @@ type Heavy = (&'static str, fn(usize) -> String);
 
 const PAGES: [Heavy; 8] = [
     ("nested `<>`", |n| filled("<>", "", n)),
-    ("`<>a`, one node fewer than the most", |n| filled("<>a", "", n)),
+    ("`<>a`, one node fewer than the most", |n| {
+        filled("<>a", "", n)
+    }),
     ("execution table", |n| pages::rows(n, true)),
     ("closed tags with the class, side by side", |n| {
         filled("<p class=a>x</p>", "", n)
