@@ -5,8 +5,10 @@ use mathlib.Core.List.{List, [], _∷_}
 use Prim.Native.Nat.{ℕ, suc, _+_, _-_, _*_, _≤_, _<_, min}
 use native.Mathlib.Numerals.{add-one}
 use native.Mathlib.Omega.{arith}
+use lib.Dec.{ltb}
 use lib.ListN.{length, getD, drop}
 use lib.Seq.{drop-cons}
+use borrow.Author.Tests.{le-leb}
 use Rattle.rules.specs.Scan.{pick, skip, part}
 use Rattle.decimal.specs.Digits.{isDigit, valueFrom, limit, isNumber, numberAt}
 use Rattle.decimal.specs.declared.Number.the-variants.{Read, Bad}
@@ -25,6 +27,12 @@ pub digit-more : (ds : List ℕ) (i n d m : ℕ) → i < length ds → d ≡ get
 unfolding valueFrom
 digit-more ds i n d m l e f =
     rw (add-one, drop-cons ds i 0, f, e) (cap (drop (suc i) ds) (n * 10 + (getD ds i 0 - 48)))
+
+-- 1 to 10 digits up to `end` say a number, if it is below 2^32
+pub number-to : (s : List ℕ) (at end : ℕ) → end ≡ skip isDigit s at → 1 ≤ end - at → end - at ≤ 10
+    → numberAt s at ≡ pick (ltb (valueFrom 0 (part s at end)) limit) (Read (valueFrom 0 (part s at end)) end) Bad
+unfolding numberAt
+number-to s at end e l m = rw (← e, le-leb 1 (end - at) l, le-leb (end - at) 10 m)
 
 -- a number ends no earlier than it starts
 pub number-after : (s : List ℕ) (at n end : ℕ) → numberAt s at ≡ Read n end → at ≤ end

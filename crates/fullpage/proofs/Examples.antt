@@ -13,8 +13,8 @@ use Rattle.fullpage.specs.Asked.{asked, answerText}
 written : List ℕ → List ℕ
 written s = answerText (asked s)
 
-pages : map written (bytes "0" ∷ bytes "1" ∷ bytes "2\n" ∷ bytes "3" ∷ bytes "7\n" ∷ bytes "007" ∷ [])
-    ≡ [] ∷ bytes "a" ∷ bytes "a<" ∷ bytes "a<>" ∷ bytes "a<>a<>a" ∷ bytes "a<>a<>a" ∷ []
+pages : map written (bytes "0" ∷ bytes "1" ∷ bytes "2\n" ∷ bytes "3" ∷ bytes "7" ∷ bytes "7\n" ∷ bytes "007" ∷ [])
+    ≡ [] ∷ bytes "a" ∷ bytes "a<" ∷ bytes "a<>" ∷ replicate 3 (bytes "a<>a<>a")
 unfolding written asked numberAt valueFrom span cycle
 pages = refl
 

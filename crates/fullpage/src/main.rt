@@ -37,7 +37,13 @@ fn asked(s: &[u8]) -> Length
     let Number::Read(n, end) = decimal::number_at(s, 0) else {
         return Length::Refused;
     };
-    if (end <= 5) & (n <= LIMIT) & ends(s, end) {
+    if 5 < end {
+        return Length::Refused;
+    }
+    if LIMIT < n {
+        return Length::Refused;
+    }
+    if ends(s, end) {
         return Length::Of(n as usize);
     }
     Length::Refused

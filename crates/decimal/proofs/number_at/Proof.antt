@@ -9,6 +9,7 @@ use Rattle.rules.specs.Scan.{skip, part}
 use Rattle.rules.proofs.Runs.{span-le}
 use Rattle.decimal.specs.Digits.{isDigit, valueFrom, limit, numberAt}
 use Rattle.decimal.specs.declared.Number.the-variants.{Read}
+use Rattle.decimal.proofs.Numbers.{number-to}
 use Rattle.decimal.proofs.number_at.Statement.{statement}
 use Rattle.decimal.proofs.number_at.Tie as tie
 
@@ -38,27 +39,25 @@ cast-t11 : tie.Need-cast-t11
 cast-t11 c = omega arith
 
 returns-3 : tie.Need-returns-3
-unfolding numberAt
 returns-3 c =
-    let a = c .before .before .before .before .before .before .before .args in
-    let end = c .before .before .before .before .before .skip-digits .result in
+    let v = c .before .value in
+    let digits = c .before .before .before .before .before in
+    let a = digits .before .before .args in
+    let end = digits .skip-digits .result in
     let n = valueFrom 0 (part (a .s .now) (a .at) end) in
-    let l : 1 ≤ end - a .at = omega arith in
-    let m : end - a .at ≤ 10 = omega arith in
-    let e : c .before .value .result ≡ n = omega (arith, c .before .value .ensures, c .if3 .taken) in
-    let f : n < limit = omega (arith, c .before .value .ensures, c .if3 .taken) in
-    rw (← c .before .before .before .before .before .skip-digits .ensures, le-leb 1 _ l, le-leb _ 10 m, lt-ltb n limit f) (ap (λ (k : ℕ). Read k end) e)
+    let e : v .result ≡ n = omega (arith, v .ensures, c .if3 .taken) in
+    let f : n < limit = omega (arith, v .ensures, c .if3 .taken) in
+    rw (number-to (a .s .now) (a .at) end (digits .skip-digits .ensures) (omega arith) (omega arith), lt-ltb n limit f)
+    (ap (λ (k : ℕ). Read k end) e)
 
 returns-4 : tie.Need-returns-4
-unfolding numberAt
 returns-4 c =
-    let a = c .before .before .before .before .before .before .before .args in
-    let end = c .before .before .before .before .before .skip-digits .result in
-    let n = valueFrom 0 (part (a .s .now) (a .at) end) in
-    let l : 1 ≤ end - a .at = omega arith in
-    let m : end - a .at ≤ 10 = omega arith in
-    let f : limit ≤ n = omega (arith, c .before .value .ensures, c .if3 .left) in
-    rw (← c .before .before .before .before .before .skip-digits .ensures, le-leb 1 _ l, le-leb _ 10 m, le-ltb n limit f)
+    let v = c .before .value in
+    let digits = c .before .before .before .before .before in
+    let a = digits .before .before .args in
+    let end = digits .skip-digits .result in
+    let f : limit ≤ valueFrom 0 (part (a .s .now) (a .at) end) = omega (arith, v .ensures, c .if3 .left) in
+    rw (number-to (a .s .now) (a .at) end (digits .skip-digits .ensures) (omega arith) (omega arith), le-ltb _ limit f)
 
 pub number-at-spec : {M : Type 1} → statement M
 number-at-spec =
