@@ -50,7 +50,8 @@ uint32_t tl_range(const uint8_t *page, size_t page_len, const uint32_t *table, s
 uint32_t tl_attribute(const uint8_t *page, size_t page_len, const uint32_t *table, size_t table_len, size_t handle,
                       const uint8_t *name, size_t name_len, size_t answer[3]);
 
-/* The text below a tag. *count: its bytes. Refused as 1, 3, 4, 7. */
+/* The text below a tag; in a page that broke off, a beginning of its text in the whole page. *count: its bytes.
+ * Refused as 1, 3, 4, 7. */
 uint32_t tl_inner_text(const uint8_t *page, size_t page_len, const uint32_t *table, size_t table_len, size_t handle,
                        uint8_t *out, size_t out_len, size_t *count);
 

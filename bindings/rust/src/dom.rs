@@ -239,7 +239,18 @@ impl<'a> Dom<'a> {
         }
     }
 
-    /// The text below a tag: its text nodes' bytes, joined in order.
+    /// The text below a tag: its text nodes' bytes, joined in order. In a page that broke off it is a beginning of the tag's
+    /// text in the whole page.
+    ///
+    /// ```
+    /// let page = "<td>sold 400 of 900</td>";
+    /// let cell = |dom: &tl_rattle::Dom<'_>| dom.inner_text(dom.query_selector("td")?[0]);
+    /// let whole = cell(&tl_rattle::parse(page)?)?;
+    /// let broken_off = cell(&tl_rattle::parse(&page[..12])?)?;
+    /// assert_eq!(broken_off, b"sold 400");
+    /// assert!(whole.starts_with(&broken_off));
+    /// # Ok::<(), tl_rattle::Refusal>(())
+    /// ```
     ///
     /// # Errors
     /// [`Refusal::NotATag`].

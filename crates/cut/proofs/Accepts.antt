@@ -14,9 +14,10 @@ use Rattle.rules.specs.Reader.{node, read}
 use Rattle.rules.specs.Table.{nodeAt}
 use Rattle.rules.specs.Sound.{countOf, lastAt}
 use Rattle.rules.specs.Lookup.{lookup}
+use Rattle.rules.specs.Text.{innerText}
 use Rattle.rules.specs.Query.{overPage, belowTag}
-use Rattle.rules.specs.Refusals.{asking, askingTag}
-use Rattle.rules.specs.Answers.{selected, attributeAnswer, queryAnswer, queryBelowAnswer}
+use Rattle.rules.specs.Refusals.{asking, askingTag, counted}
+use Rattle.rules.specs.Answers.{selected, textAnswer, attributeAnswer, queryAnswer, queryBelowAnswer}
 use Rattle.rules.specs.declared.Asked.the-variants.{Holds, Refused as Unasked}
 use Rattle.rules.specs.declared.Counted.the-variants.{Refused}
 use Rattle.laws.proofs.Nodes.{kind-in}
@@ -47,6 +48,10 @@ module _ {white : ℕ → Bool} {void : List ℕ → Bool} {p ws : List ℕ} (A 
   pub attribute-is : (h : ℕ) (k : List ℕ) → IsTag ws h → attributeAnswer white p ws h k ≡ Holds (lookup white p (nodeAt ws h) k)
   unfolding attributeAnswer
   attribute-is h k t = asked-tag Unasked h (Holds (lookup white p (nodeAt ws h) k)) t
+
+  pub text-is : (h m : ℕ) → IsTag ws h → textAnswer white p ws h m ≡ counted m (length (innerText p ws h))
+  unfolding textAnswer
+  text-is h m t = asked-tag Refused h (counted m (length (innerText p ws h))) t
 
   pub query-is : (s : List ℕ) (m : ℕ) → queryAnswer white p ws s m ≡ selected (overPage white p ws s) s m
   unfolding queryAnswer

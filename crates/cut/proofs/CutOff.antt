@@ -1,8 +1,8 @@
 -- Demand 3. The two tables hold the nodes of the two readings, and these agree on the beginning's tags (`Agree` of the laws).
 -- All that the public calls ask of a tag, its name, its attributes and what it reaches, is therefore the same in both.
-use Prim.Native.Nat.{ℕ, suc, _+_, _-_, _≤_, _<_}
+use Prim.Native.Nat.{ℕ, suc, _-_, _≤_, _<_}
 use native.Mathlib.Omega.{arith}
-use mathlib.Core.Bool.{Bool, true, _&&_}
+use mathlib.Core.Bool.{Bool, true}
 use mathlib.Core.Path.{_≡_, refl, ap, sym, _∙_}
 use mathlib.Core.List.{List}
 use lib.Dec.{ltb}
@@ -25,20 +25,13 @@ use Rattle.rules.specs.Answers.{attributeAnswer, attributePart, queryAnswer, qu
 use Rattle.rules.proofs.Lookup.{inside-more, lookup-inside}
 use Rattle.laws.proofs.CutLexer.{part-cut}
 use Rattle.laws.proofs.Nodes.{kind-in}
-use Rattle.laws.proofs.Nested.{Nested, Under, child, deeper}
-use Rattle.laws.proofs.Tree.{page-nested, descendants}
+use Rattle.laws.proofs.Tree.{reach-same}
 use Rattle.laws.proofs.Lockstep.{Agree, agree}
 use Rattle.laws.proofs.Tables.{Accepted, accepted}
 use Rattle.cut.specs.Cut.{IsTag, Enough, Alike, CutOff, Demand3}
 use Rattle.cut.proofs.Finds.{same-finds, and-parts}
 use Rattle.cut.proofs.Selected.{selected-alike}
 use Rattle.cut.proofs.Accepts.{tag-node, node-tag, attribute-is, query-is, below-is, last-is, descends}
-
--- descendants by other parents, the same up to d
-under-same : {n : ℕ} {P Q last : ℕ → ℕ} {h d : ℕ} → Nested n P last → d < n → ((m : ℕ) → m ≤ d → P m ≡ Q m) → Under P h d → Under Q h d
-under-same {d = d} N l e (child c) = child (sym (e d (omega arith)) ∙ c)
-under-same {d = d} N l e (deeper {m = m} c u) =
-    let low = N .lower d l in deeper (sym (e d (omega arith)) ∙ c) (under-same N (omega arith) (λ k b. e k (omega arith)) u)
 
 -- the row that a test finds to be a tag is one
 is-tag : (ws : List ℕ) (h : ℕ) → isTag ws h ≡ true → IsTag ws h
@@ -61,15 +54,12 @@ module _ (white : ℕ → Bool) (void : List ℕ → Bool) (p : List ℕ) (n : �
 
   -- a tag of the beginning below h there is below h in the whole page, and the other way round
   reach-kept : (h d : ℕ) → node first d .kind ≡ 1 → h < d → d ≤ node first h .last → d ≤ node all h .last
-  reach-kept h d e l r =
-      let u = descendants white void q h d .1 (l, r) in
-      descendants white void p h d .0 (under-same (page-nested white void q) (kind-in first d e) (λ m b. G .parents d m e b) u) .1
+  reach-kept h d e l r = reach-same white void q p h d l (kind-in first d e) (λ m b. G .parents d m e b) r
 
   reach-found : (h d : ℕ) → node first d .kind ≡ 1 → h < d → d ≤ node all h .last → d ≤ node first h .last
   reach-found h d e l r =
-      let u = descendants white void p h d .1 (l, r) in
       let k : d < length all = kind-in all d (sym (G .kept d e .kind) ∙ e) in
-      descendants white void q h d .0 (under-same (page-nested white void p) k (λ m b. sym (G .parents d m e b)) u) .1
+      reach-same white void p q h d l k (λ m b. sym (G .parents d m e b)) r
 
   module _ {ws vs : List ℕ} (A : Accepted white void q ws) (B : Accepted white void p vs) where
     -- ---- clause 1

@@ -2,3 +2,8 @@ pub mod Finds
 pub mod Selected
 pub mod Accepts
 pub mod CutOff
+pub mod Prefix
+pub mod Later
+pub mod TextNodes
+pub mod Text
+pub mod Examples

@@ -255,11 +255,11 @@ nameTo (Doctype h n) = 0
 nameTo (Tag a e n s) = e
 nameTo (Nothing n) = 0
 
--- what holds of the places in an item that begins at x; a tag or a comment has two bytes or more
+-- what holds of the places in an item that begins at x; a tag or a comment has two bytes or more, and a comment starts there or later
 abbrev pub Formed : ℕ → Item → Type 0
 Formed x (Text e) = Unit {0}
 Formed x (Close a e n) = (a ≤ e) × (e ≤ n)
-Formed x (Comment a e n) = (a ≤ e) × (e ≤ n) × (suc x < n)
+Formed x (Comment a e n) = (a ≤ e) × (e ≤ n) × (suc x < n) × (x ≤ a)
 Formed x (Doctype h n) = Unit {0}
 Formed x (Tag a e n s) = (x < a) × (a ≤ e) × (e < n)
 Formed x (Nothing n) = Unit {0}
@@ -460,8 +460,10 @@ module _ (white : ℕ → Bool) where
       (λ t. cases (Formed x) (sameLower (part p (pass p q) (skip isIdent p (pass p q))) doctypeName) (λ u. tt) (λ u. tt))
     where
       go : (e : ℕ) → Ends p (pass p q) e → Formed x (commentTo p (pred q) e)
-      go e (inl z) = rw z (omega arith, omega arith, omega arith)
-      go e (inr m) = rw (ne-eqb e 0 (λ z. omega (arith, m .0))) (omega (arith, m .0, m .1), omega arith, omega (arith, m .0, m .1))
+      go e (inl z) = rw z (omega arith, omega arith, omega arith, omega arith)
+      go e (inr m) =
+          rw (ne-eqb e 0 (λ z. omega (arith, m .0)))
+          (omega (arith, m .0, m .1), omega arith, omega (arith, m .0, m .1), omega arith)
 
   markup-formed : (x : ℕ) (p : List ℕ) (q : ℕ) → x < q → q ≤ length p → Formed x (markup white p q)
   unfolding markup closing

@@ -18,7 +18,7 @@ use Rattle.rules.specs.Reader.{node, Reading, leaf, tagNode, closed, closeInto,
 use Rattle.laws.proofs.Cut.{length-cut}
 use Rattle.rules.proofs.Pick.{cases}
 use Rattle.laws.proofs.CutLexer.{Cut, whole, past, nameTo, Formed, formed-named, part-cut, item-cut, item-grows, item-formed}
-use Rattle.laws.proofs.Nodes.{SameTag, same-trans, same-sym, snoc-all, set-all, Ext, ext-refl, ext-trans, ext-snoc, ext-set, ext-last}
+use Rattle.laws.proofs.Nodes.{SameTag, same-closed, same-trans, same-sym, snoc-all, set-all, Ext, ext-refl, ext-trans, ext-snoc, ext-set, ext-last}
 
 module _ (white : ℕ → Bool) (void : List ℕ → Bool) where
   -- an item moves the place to its end
@@ -42,7 +42,8 @@ module _ (white : ℕ → Bool) (void : List ℕ → Bool) where
   close-ext b p r a e n [] = ext-refl b (r .nodes)
   close-ext b p r a e n (h ∷ hs) =
       cases (λ (s : Reading). Ext b (r .nodes) (s .nodes)) (same (part p (node (r .nodes) h .name) (node (r .nodes) h .stop)) (part p a e))
-      (λ t. ext-set b (r .nodes) h (closed (node (r .nodes) h) n (pred (length (r .nodes)))) (record { kind = refl; start = refl; name = refl; stop = refl; opened = refl; parent = refl }))
+      (λ t. let l : ℕ = pred (length (r .nodes)) in
+      ext-set b (r .nodes) h (closed (node (r .nodes) h) n l) (same-closed (node (r .nodes) h) n l))
       (λ t. ext-refl b (r .nodes))
 
   pub put-ext : (b : ℕ) (p : List ℕ) (r : Reading) (i : Item) → (isTag i ≡ true → b < next i) → Ext b (r .nodes) (put void p r i .nodes)

@@ -17,7 +17,7 @@ use Rattle.rules.specs.Reader.{node, Reading, noNode, leaf, tagNode, closed, cl
 use Rattle.rules.specs.Facts.{SoundNode, Tags, Fine}
 use Rattle.rules.proofs.Pick.{cases}
 use Rattle.laws.proofs.CutLexer.{Formed, item-grows, item-formed}
-use Rattle.laws.proofs.Nodes.{snoc-all, set-all, Ext, ext-snoc, ext-set, kind-in}
+use Rattle.laws.proofs.Nodes.{same-closed, snoc-all, set-all, Ext, ext-snoc, ext-set, kind-in}
 use Rattle.laws.proofs.Nested.{Nested}
 use Rattle.laws.proofs.Tree.{parents, page-nested}
 use Rattle.laws.proofs.Lockstep.{put-at}
@@ -29,9 +29,13 @@ pub record Sound (size : ℕ) (ns : List Node) : Type 0 where
 later : {a b h : ℕ} {t : Node} → a ≤ b → SoundNode a h t → SoundNode b h t
 later l s = record { some = s .some; known = s .known; ordered = s .ordered; within = omega arith; tag = s .tag; plain = s .plain }
 
-tags-ext : {b : ℕ} {ns ms : List Node} (hs : List ℕ) → Ext b ns ms → Tags ns hs → Tags ms hs
+pub tags-ext : {b : ℕ} {ns ms : List Node} (hs : List ℕ) → Ext b ns ms → Tags ns hs → Tags ms hs
 tags-ext [] e t = tt
 tags-ext {ns = ns} (h ∷ hs) e t = (sym (e .old h (kind-in ns h (t .0)) .kind) ∙ t .0, tags-ext hs e (t .1))
+
+-- nothing has been read
+pub begin-fine : Fine begin
+begin-fine = record { nodes = λ h b. absurd (omega arith); tags = tt }
 
 -- a tag with another end and last
 ended : {a b h : ℕ} {t : Node} (e l : ℕ) → t .kind ≡ 1 → t .end ≤ e → e ≤ b → SoundNode a h t → SoundNode b h (closed t e l)
@@ -53,7 +57,10 @@ module _ (white : ℕ → Bool) (void : List ℕ → Bool) (p : List ℕ) where
   close-fine r a e n [] q l F = record { nodes = λ h b. later l (F .nodes h b); tags = F .tags }
   close-fine r a e n (h ∷ hs) q l F =
       cases Fine (same (part p (node (r .nodes) h .name) (node (r .nodes) h .stop)) (part p a e))
-      (λ t. record { nodes = λ k b. all k (omega (arith, length-set (r .nodes) h y)); tags = tags-ext hs (ext-set 0 (r .nodes) h y (record { kind = refl; start = refl; name = refl; stop = refl; opened = refl; parent = refl })) (T .1) })
+      (λ t. record {
+        nodes = λ k b. all k (omega (arith, length-set (r .nodes) h y));
+        tags = tags-ext hs (ext-set 0 (r .nodes) h y (same-closed (node (r .nodes) h) n (pred (length (r .nodes))))) (T .1);
+      })
       (λ t. record { nodes = λ k b. later l (F .nodes k b); tags = F .tags })
     where
       y : Node
@@ -87,7 +94,7 @@ module _ (white : ℕ → Bool) (void : List ℕ → Bool) (p : List ℕ) where
       go false = (ap (λ (t : Node). t .kind) (getD-append-seam (r .nodes) (tagNode r a e n) [] noNode), old)
   put-fine r (Nothing n) l f F = record { nodes = λ k b. later (omega arith) (F .nodes k b); tags = F .tags }
 
-  steps-fine : (k : ℕ) (r : Reading) → r .at ≤ length p → Fine r → Fine (steps white void p k r) × (steps white void p k r .at ≤ length p)
+  pub steps-fine : (k : ℕ) (r : Reading) → r .at ≤ length p → Fine r → Fine (steps white void p k r) × (steps white void p k r .at ≤ length p)
   unfolding steps step
   steps-fine zero r h F = (F, h)
   steps-fine (suc k) r h F =
@@ -101,7 +108,9 @@ module _ (white : ℕ → Bool) (void : List ℕ → Bool) (p : List ℕ) where
 last-sound : (l size : ℕ) (hs : List ℕ) (ns : List Node) → Tags ns hs → ((h : ℕ) → h < length ns → SoundNode size h (node ns h)) → (h : ℕ) → h < length (withLast l hs ns) → SoundNode size h (node (withLast l hs ns) h)
 unfolding withLast
 last-sound l size [] ns T S = S
-last-sound l size (k ∷ hs) ns T S = last-sound l size hs (set ns k y) (tags-ext hs (ext-set 0 ns k y (record { kind = refl; start = refl; name = refl; stop = refl; opened = refl; parent = refl })) (T .1)) (λ h b. all h (omega (arith, length-set ns k y)))
+last-sound l size (k ∷ hs) ns T S =
+    last-sound l size hs (set ns k y) (tags-ext hs (ext-set 0 ns k y (same-closed (node ns k) (node ns k .end) l)) (T .1))
+    (λ h b. all h (omega (arith, length-set ns k y)))
   where
     y : Node
     y = closed (node ns k) (node ns k .end) l
@@ -112,8 +121,9 @@ last-sound l size (k ∷ hs) ns T S = last-sound l size hs (set ns k y) (tags-ex
 -- the nodes of a page are sound
 pub page-sound : (white : ℕ → Bool) (void : List ℕ → Bool) (p : List ℕ) → Sound (length p) (read white void p .nodes)
 page-sound white void p =
-    let f : Fine (steps white void p (length p) begin) × (steps white void p (length p) begin .at ≤ length p) = steps-fine white void p (length p) begin (omega arith) (record { nodes = λ h b. absurd (omega arith); tags = tt }) in
+    let s : Reading = steps white void p (length p) begin in
+    let f : Fine s × (s .at ≤ length p) = steps-fine white void p (length p) begin (omega arith) begin-fine in
     record {
-      nodes = last-sound (pred (length (steps white void p (length p) begin .nodes))) (length p) (steps white void p (length p) begin .opens) (steps white void p (length p) begin .nodes) (f .0 .tags) (λ h b. later (f .1) (f .0 .nodes h b));
+      nodes = last-sound (pred (length (s .nodes))) (length p) (s .opens) (s .nodes) (f .0 .tags) (λ h b. later (f .1) (f .0 .nodes h b));
       nested = page-nested white void p;
     }

@@ -1,20 +1,22 @@
 -- What one step of the reader takes and adds: a text, or something that begins with `<`, and at most one node.
-use Prim.Native.Nat.{ℕ, suc, _+_, _≤_, _<_, pred}
+use Prim.Native.Nat.{ℕ, zero, suc, _+_, _-_, _≤_, _<_, pred}
 use native.Mathlib.Omega.{arith}
 use mathlib.Core.Bool.{Bool, true, false, _&&_}
 use mathlib.Core.Path.{_≡_, refl, _∙_}
 use mathlib.Core.List.{List, [], _∷_}
 use lib.ListN.{length, length-append, length-set}
 use lib.Dec.{eqb, ltb}
+use borrow.Author.Tests.{ltb-true, ltb-false}
 use Rattle.rules.specs.Bytes.{is, other, isIdent}
 use Rattle.rules.specs.Scan.{skip, here, pass, part, same}
 use Rattle.rules.specs.declared.Item.{Item}
 use Rattle.rules.specs.declared.Item.the-variants.{Text, Close, Comment, Doctype, Tag, Nothing}
 use Rattle.rules.specs.Lexer.{next, commentEnd, sameLower, doctypeName, tagTo, closing, bang, tag, markup, itemAt}
 use Rattle.rules.specs.Attributes.{attributesEnd}
-use Rattle.rules.specs.Reader.{Reading, node, leaf, tagNode, closed, closeInto, put}
+use Rattle.rules.specs.Reader.{Reading, node, leaf, tagNode, closed, closeInto, put, step, steps}
 use Rattle.rules.proofs.Pick.{cases}
 use Rattle.laws.proofs.CutLexer.{Formed, item-grows, item-formed}
+use Rattle.laws.proofs.Lockstep.{put-at}
 
 -- ---- the nodes that an item adds
 
@@ -102,3 +104,16 @@ module _ (white : ℕ → Bool) (p : List ℕ) where
       go (Doctype b x) n f g = omega arith
       go (Tag a e x s) n f g = omega (arith, f .0, f .1, f .2)
       go (Nothing x) n f g = omega arith
+
+-- ---- as many steps as bytes are left come to the end of the page
+
+module _ (white : ℕ → Bool) (void : List ℕ → Bool) (p : List ℕ) where
+  pub steps-end : (k : ℕ) (r : Reading) → length p - r .at ≤ k → length p ≤ steps white void p k r .at
+  unfolding steps step
+  steps-end zero r l = omega arith
+  steps-end (suc k) r l =
+      cases (λ (s : Reading). length p ≤ s .at) (ltb (r .at) (length p))
+      (λ t. let i : Item = itemAt white p (r .at) in
+      let g = item-grows white p (r .at) (ltb-true (r .at) (length p) t) in
+      steps-end k (put void p r i) (omega (arith, put-at white void p r i, g .0)))
+      (λ t. ltb-false (r .at) (length p) t)

@@ -18,7 +18,7 @@ use Rattle.rules.specs.declared.Node.{Node}
 use Rattle.rules.specs.Reader.{node, Reading, noNode, parentOf, leaf, tagNode, closed, closeInto, put, step, steps, begin, withLast, read}
 use Rattle.rules.proofs.Pick.{cases}
 use Rattle.laws.proofs.Nodes.{set-all, ext-last}
-use Rattle.laws.proofs.Nested.{Nested, Under, child, deeper, nested-cong, nested-add, range-under, under-range}
+use Rattle.laws.proofs.Nested.{Nested, Under, child, deeper, under-same, nested-cong, nested-add, range-under, under-range}
 
 unfoldable pub mem : ℕ → List ℕ → Bool
 mem g [] = false
@@ -232,3 +232,10 @@ module _ (white : ℕ → Bool) (void : List ℕ → Bool) (p : List ℕ) where
       go r (no l) =
           let z : d ≤ 0 = rw (List·getD-eq-default (read white void p .nodes) noNode {n = h} (omega arith)) at (r .1) in
           absurd (omega (arith, r .0))
+
+-- what reaches a node in one page reaches it in another, where the parents up to it are the same
+pub reach-same : (white : ℕ → Bool) (void : List ℕ → Bool) (p q : List ℕ) (h d : ℕ) → h < d → d < length (read white void p .nodes)
+    → ((m : ℕ) → m ≤ d → parents (read white void p .nodes) m ≡ parents (read white void q .nodes) m)
+    → d ≤ node (read white void p .nodes) h .last → d ≤ node (read white void q .nodes) h .last
+reach-same white void p q h d l b same r =
+    let u = descendants white void p h d .1 (l, r) in descendants white void q h d .0 (under-same (page-nested white void p) b same u) .1

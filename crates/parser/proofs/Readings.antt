@@ -19,7 +19,7 @@ use Rattle.rules.proofs.Pick.{cases}
 use Rattle.laws.proofs.CutLexer.{Formed, item-grows, item-formed}
 use Rattle.laws.proofs.Lockstep.{put-at}
 use Rattle.laws.proofs.Step.{adds-few, put-count}
-use Rattle.laws.proofs.Soundness.{put-fine}
+use Rattle.laws.proofs.Soundness.{begin-fine, put-fine}
 use Rattle.tree.specs.Held.{Held, Room, Fits, Inner}
 use Rattle.tree.proofs.Rows.{inner-below, innermost}
 use Rattle.parser.specs.Parsing.{Good}
@@ -42,7 +42,7 @@ module _ (white : ℕ → Bool) (p : List ℕ) where
   -- ---- the readings from the beginning on are good
 
   pub good-begin : Good white p begin
-  good-begin = record { fine = record { nodes = λ h b. absurd (omega arith); tags = tt }; few = omega arith; within = omega arith }
+  good-begin = record { fine = begin-fine; few = omega arith; within = omega arith }
 
   pub good-step : {R : Reading} → Good white p R → R .at < length p → Good white p (put isVoid p R (itemAt white p (R .at)))
   good-step {R} G l =

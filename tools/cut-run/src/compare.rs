@@ -1,4 +1,5 @@
-//! What the cut theorem compares (`CutOff` in crates/cut/specs/Cut.antt), asked of the compiled calls.
+//! What the cut theorem compares (`CutOff` in crates/cut/specs/Cut.antt) and the one on a tag's text (`TextPrefix` in
+//! crates/cut/specs/Text.antt), asked of the compiled calls.
 
 use std::fmt;
 
@@ -30,6 +31,12 @@ pub enum Clause {
     Descendants,
     /// and in the whole page
     DescendantsWhole,
+    /// a tag's text is given, and is the texts after it up to its last, in the beginning and in the whole page
+    Text,
+    /// the beginning's text is a beginning of the whole page's
+    TextBegins,
+    /// and the same, if nothing descends from the whole page's tag, or the last that does ends at the cut or before it
+    TextSame,
 }
 
 /// Where the two pages' answers differ.
@@ -71,6 +78,15 @@ pub struct Counts {
     /// tags whose descendants were compared, and these
     pub ranges: usize,
     pub descendants: usize,
+    /// texts of tags of beginnings
+    pub texts: usize,
+    /// equal as they must be, and of these: the tag's last descendant is an unfinished comment
+    pub texts_same: usize,
+    pub texts_unfinished: usize,
+    /// equal although they need not be
+    pub texts_besides: usize,
+    /// shorter than in the whole page
+    pub texts_begun: usize,
     pub differences: usize,
 }
 
@@ -78,6 +94,27 @@ pub struct Counts {
 const KEPT: usize = 50;
 
 type Answer = Result<Vec<u32>, Refusal>;
+
+/// A tag's text: as the call gives it, and by the table.
+struct Text {
+    given: Result<Vec<u8>, Refusal>,
+    by_table: Option<Vec<u8>>,
+}
+
+impl Text {
+    fn ask<R: Reader>(reader: &R, asked: Asked<'_>, handle: u32) -> Text {
+        // no text is longer than its page
+        let mut out = vec![0; asked.page.len()];
+        let many = reader.text(asked, handle, &mut out);
+        Text {
+            given: many.map(|many| {
+                out.truncate(many);
+                out
+            }),
+            by_table: Rows(asked.table).text(asked.page, handle),
+        }
+    }
+}
 
 /// A whole page, with its answers so far.
 pub struct Whole<'p, R> {
@@ -88,6 +125,7 @@ pub struct Whole<'p, R> {
     held: Vec<Option<Result<HeldAt, Refusal>>>,
     found: Vec<Answer>,
     below: Vec<Option<Answer>>,
+    texts: Vec<Option<Text>>,
     // lent to the beginning's calls
     lent: Vec<u32>,
     out: Vec<u32>,
@@ -111,6 +149,7 @@ impl<'p, R: Reader> Whole<'p, R> {
             held: Vec::new(),
             found: Vec::new(),
             below: Vec::new(),
+            texts: Vec::new(),
             lent: vec![0; words_for(room)],
             out: vec![0; room],
             differences: Vec::new(),
@@ -130,6 +169,7 @@ impl<'p, R: Reader> Whole<'p, R> {
         let count = Rows(&whole.table).count() as usize;
         whole.held = vec![None; count * questions.names.len()];
         whole.below = vec![None; count * questions.selectors.len()];
+        whole.texts.resize_with(count, || None);
         let asked = Asked {
             page,
             table: &whole.table,
@@ -211,6 +251,15 @@ impl<'p, R: Reader> Whole<'p, R> {
         Some(at)
     }
 
+    /// The text of the whole page's tag: where in `texts` it is kept.
+    fn text(&mut self, handle: u32) -> Option<usize> {
+        let at = handle as usize;
+        if self.texts.get(at)?.is_none() {
+            self.texts[at] = Some(Text::ask(self.reader, self.asked(), handle));
+        }
+        Some(at)
+    }
+
     /// Compares the page's first `n` bytes, read by `reader`, with the whole page.
     pub fn cut<B: Reader>(
         &mut self,
@@ -234,6 +283,7 @@ impl<'p, R: Reader> Whole<'p, R> {
                 self.descendants(counts, Clause::Descendants, n, table);
                 let some = some_of(&tags, self.questions.tags, random);
                 self.attributes(counts, asked, reader, &some);
+                self.texts(counts, asked, reader, &some);
                 self.queries(counts, asked, reader);
                 let some = some_of(&tags, self.questions.below, random);
                 self.queries_below(counts, asked, reader, &some);
@@ -334,6 +384,45 @@ impl<'p, R: Reader> Whole<'p, R> {
                         });
                     }
                 }
+            }
+        }
+    }
+
+    /// Request U14: each call gives the text by its own table; the beginning's is a beginning of the whole page's, and
+    /// the same if nothing descends from the whole page's tag, or if the last that does ends at the cut or before it.
+    fn texts<B: Reader>(
+        &mut self,
+        counts: &mut Counts,
+        asked: Asked<'_>,
+        reader: &B,
+        tags: &[u32],
+    ) {
+        let n = asked.page.len();
+        for &h in tags {
+            let text = Text::ask(reader, asked, h);
+            counts.texts += 1;
+            let Some(at) = self.text(h) else {
+                self.differ(counts, Clause::Text, n, Some(h), || {
+                    "the whole page has no such row".to_owned()
+                });
+                continue;
+            };
+            let whole = self.texts[at].as_ref().expect("it was asked");
+            let rows = Rows(&self.table);
+            let last = rows.last(h);
+            let same = last == h || last < rows.count() && rows.end(last) as usize <= n;
+            match (&text.given, &whole.given) {
+                (Ok(one), Ok(other)) if one == other => {
+                    let unfinished = rows.is_unfinished_comment(last);
+                    counts.texts_same += usize::from(same);
+                    counts.texts_unfinished += usize::from(same && unfinished);
+                    counts.texts_besides += usize::from(!same);
+                }
+                (Ok(one), Ok(other)) if other.starts_with(one) => counts.texts_begun += 1,
+                _ => {}
+            }
+            for (clause, what) in unlike(&text, whole, same) {
+                self.differ(counts, clause, n, Some(h), || what);
             }
         }
     }
@@ -470,5 +559,93 @@ fn alike(
         // with the room that is lent, no answer is longer than its buffer
         (Err(one), Err(other)) if one == *other && one != Refusal::BufferTooShort => Ok(0),
         (one, other) => Err(format!("answers {one:?} and {other:?}")),
+    }
+}
+
+/// What is wrong with a tag's text in the beginning and in the whole page, where they must be the `same` or need not be.
+fn unlike(text: &Text, whole: &Text, same: bool) -> Vec<(Clause, String)> {
+    let mut wrong = Vec::new();
+    for (page, text) in [("beginning", text), ("whole page", whole)] {
+        let said = |text: &[u8]| text.escape_ascii().to_string();
+        let given = text.given.as_deref();
+        let by_table = text.by_table.as_deref();
+        if given.is_err() || given.ok() != by_table {
+            let (given, by_table) = (given.map(said), by_table.map(said));
+            let what = format!("{given:?} in the {page}, {by_table:?} by its table");
+            wrong.push((Clause::Text, what));
+        }
+    }
+    if let (Ok(one), Ok(other)) = (&text.given, &whole.given) {
+        let (said, whole) = (one.escape_ascii(), other.escape_ascii());
+        let what = || format!("\"{said}\" in the beginning, \"{whole}\" in the whole page");
+        if !other.starts_with(one) {
+            wrong.push((Clause::TextBegins, what()));
+        }
+        if same && one != other {
+            wrong.push((Clause::TextSame, what()));
+        }
+    }
+    wrong
+}
+
+#[cfg(test)]
+mod tests {
+    use super::*;
+    use crate::reader::{Alteration, Altered, Compiled};
+
+    static ONLY_TEXTS: Questions = Questions {
+        names: Vec::new(),
+        selectors: Vec::new(),
+        tags: usize::MAX,
+        below: 0,
+    };
+
+    /// A page's texts at every cut: equal by the rule, before an unfinished comment, equal besides, begun.
+    fn texts(page: &[u8]) -> [usize; 4] {
+        let mut counts = Counts::default();
+        let mut whole = Whole::new(page, &ONLY_TEXTS, &Compiled, &mut counts);
+        for n in 0..=page.len() {
+            whole.cut(n, &Compiled, &mut Random::new(0, 0), &mut counts);
+        }
+        assert_eq!(counts.differences, 0);
+        let all = counts.texts_same + counts.texts_besides + counts.texts_begun;
+        assert_eq!(counts.texts, all);
+        [
+            counts.texts_same,
+            counts.texts_unfinished,
+            counts.texts_besides,
+            counts.texts_begun,
+        ]
+    }
+
+    #[test]
+    fn texts_are_of_every_sort() {
+        assert_eq!(texts(b"x <a"), [0, 0, 0, 0]);
+        assert_eq!(texts(b"<a>"), [1, 0, 0, 0]);
+        assert_eq!(texts(b"<a>xy</a>"), [5, 0, 0, 2]);
+        // a comment ends later than the text before it
+        assert_eq!(texts(b"<a>x<!--y-->"), [1, 0, 8, 1]);
+        // an unfinished one ends where it starts
+        assert_eq!(texts(b"<a>x<!--y"), [6, 6, 0, 1]);
+    }
+
+    #[test]
+    fn a_wrong_text_of_the_whole_page_is_reported() {
+        let page = b"<a>x<b></b>";
+        let reader = Altered::new(Alteration::TextShortened, page.len());
+        let mut whole = Whole::new(page, &ONLY_TEXTS, &reader, &mut Counts::default());
+        for n in 0..=page.len() {
+            let mut counts = Counts::default();
+            whole.cut(n, &Compiled, &mut Random::new(0, 0), &mut counts);
+            let reported = whole.differences.drain(..);
+            let clauses: Vec<Clause> = reported.map(|difference| difference.clause).collect();
+            let expected: &[Clause] = match n {
+                0..=2 => &[],
+                3 => &[Clause::Text],
+                4..=10 => &[Clause::Text, Clause::TextBegins],
+                _ => &[Clause::Text, Clause::TextBegins, Clause::TextSame],
+            };
+            assert_eq!(clauses, expected, "cut at {n}");
+        }
     }
 }

@@ -1,5 +1,5 @@
-//! Runs the compiled calls over random pages at every cut, and compares what the cut theorem compares: the page's first n
-//! bytes with the whole page, for each n from 0 to its length.
+//! Runs the compiled calls over random pages at every cut, and compares what the cut theorem and the one on a tag's text
+//! compare: the page's first n bytes with the whole page, for each n from 0 to its length.
 
 mod compare;
 mod pages;
@@ -73,7 +73,7 @@ fn options() -> Result<Options, String> {
     Ok(options)
 }
 
-/// Every name of every tag, and many selectors; of a long page fewer.
+/// Every name and the text of every tag, and many selectors; of a long page fewer.
 const SHORT: Extent = Extent {
     names: usize::MAX,
     selectors: 26,
@@ -207,6 +207,15 @@ fn print(counts: &Counts) {
         "tags with their descendants {}: {}",
         counts.ranges, counts.descendants
     );
+    println!(
+        "texts {}: equal by the rule {}, of these with an unfinished comment as the last \
+         descendant {}; equal besides {}, a proper beginning {}",
+        counts.texts,
+        counts.texts_same,
+        counts.texts_unfinished,
+        counts.texts_besides,
+        counts.texts_begun
+    );
     println!("differences {}", counts.differences);
 }
 
@@ -234,6 +243,9 @@ fn shows_in(alteration: Alteration) -> Clause {
         Alteration::FindBelowDropped | Alteration::FindBelowInvented | Alteration::BelowRefused => {
             Clause::Below
         }
+        Alteration::TextRefused | Alteration::TextShortened => Clause::Text,
+        Alteration::TextLengthened => Clause::TextBegins,
+        Alteration::WholeTextShortened => Clause::TextSame,
     }
 }
 
@@ -249,7 +261,7 @@ fn self_test(options: &Options) -> bool {
             let (page, questions, mut random) = case(options.seed, number, false);
             let mut counts = Counts::default();
             let mut whole = Whole::new(&page, &questions, &Compiled, &mut counts);
-            let reader = Altered::new(alteration);
+            let reader = Altered::new(alteration, page.len());
             for n in 0..=page.len() {
                 whole.cut(n, &reader, &mut random, &mut counts);
                 let reported = std::mem::take(&mut whole.differences);
@@ -275,7 +287,7 @@ fn self_test(options: &Options) -> bool {
         let (mut altered, mut missed) = (0, 0);
         for number in 0..PAGES {
             let (page, questions, _) = case(options.seed, number, false);
-            let reader = Altered::new(alteration);
+            let reader = Altered::new(alteration, page.len());
             let whole = Whole::new(&page, &questions, &reader, &mut Counts::default());
             let all = &whole.differences;
             let reported = all.iter().any(|d| d.clause == Clause::DescendantsWhole);
@@ -293,7 +305,7 @@ fn self_test(options: &Options) -> bool {
     let page = b"x <p id=a><b k=v>1</b></p><!--c--> y";
     let dom = tl_rattle::parse(page).expect("it is not too long");
     let questions = questions(&mut Random::new(options.seed, 0), &dom, &SHORT);
-    let reader = Altered::new(Alteration::LastTagDropped);
+    let reader = Altered::new(Alteration::LastTagDropped, page.len());
     let least = smallest(page, &questions, &reader, Clause::Tags);
     let pass = least == b"<>";
     good &= pass;

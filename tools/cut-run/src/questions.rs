@@ -12,7 +12,7 @@ use crate::random::Random;
 pub struct Questions {
     pub names: Vec<Vec<u8>>,
     pub selectors: Vec<Vec<u8>>,
-    /// of how many tags, the latest and others by chance, every name is asked
+    /// of how many tags, the latest and others by chance, every name and the text is asked
     pub tags: usize,
     /// and below how many every selector
     pub below: usize,

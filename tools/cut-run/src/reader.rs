@@ -29,6 +29,10 @@ pub trait Reader {
     ) -> Result<usize, Refusal> {
         calls::query_selector_below(asked.page, asked.table, handle as usize, selector, out)
     }
+
+    fn text(&self, asked: Asked<'_>, handle: u32, out: &mut [u8]) -> Result<usize, Refusal> {
+        calls::inner_text(asked.page, asked.table, handle as usize, out)
+    }
 }
 
 /// A page with its table.
@@ -68,9 +72,13 @@ pub enum Alteration {
     FindBelowDropped,
     FindBelowInvented,
     BelowRefused,
+    TextRefused,
+    TextLengthened,
+    TextShortened,
+    WholeTextShortened,
 }
 
-pub const ALTERATIONS: [Alteration; 22] = [
+pub const ALTERATIONS: [Alteration; 26] = [
     Alteration::ReadingRefused,
     Alteration::ReadOneByteLess,
     Alteration::LastTagDropped,
@@ -93,18 +101,25 @@ pub const ALTERATIONS: [Alteration; 22] = [
     Alteration::FindBelowDropped,
     Alteration::FindBelowInvented,
     Alteration::BelowRefused,
+    Alteration::TextRefused,
+    Alteration::TextLengthened,
+    Alteration::TextShortened,
+    Alteration::WholeTextShortened,
 ];
 
 /// The calls with some answers altered.
 pub struct Altered {
     alteration: Alteration,
+    // how many bytes the whole page has
+    length: usize,
     taken: Cell<bool>,
 }
 
 impl Altered {
-    pub fn new(alteration: Alteration) -> Altered {
+    pub fn new(alteration: Alteration, length: usize) -> Altered {
         Altered {
             alteration,
+            length,
             taken: Cell::new(false),
         }
     }
@@ -286,5 +301,24 @@ impl Reader for Altered {
             }
             _ => answer,
         }
+    }
+
+    fn text(&self, asked: Asked<'_>, handle: u32, out: &mut [u8]) -> Result<usize, Refusal> {
+        let many = Compiled.text(asked, handle, out)?;
+        let whole = asked.page.len() == self.length;
+        let altered = match self.alteration {
+            Alteration::TextRefused => Err(Refusal::NotATag),
+            Alteration::TextLengthened if many > 0 && many < out.len() => {
+                out.copy_within(..many, 1);
+                // unlike the first byte, so that the whole page's text does not begin so
+                out[0] = !out[1];
+                Ok(many + 1)
+            }
+            Alteration::TextShortened if many > 0 => Ok(many - 1),
+            Alteration::WholeTextShortened if many > 0 && whole => Ok(many - 1),
+            _ => return Ok(many),
+        };
+        self.take();
+        altered
     }
 }

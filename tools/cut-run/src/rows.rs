@@ -22,6 +22,16 @@ impl Rows<'_> {
         handle < self.count() && self.word(handle, 0) == 1
     }
 
+    pub fn is_text(self, handle: u32) -> bool {
+        handle < self.count() && self.word(handle, 0) == 2
+    }
+
+    /// A comment without its `-->` ends where it starts.
+    pub fn is_unfinished_comment(self, handle: u32) -> bool {
+        let is = handle < self.count() && self.word(handle, 0) == 3;
+        is && self.start(handle) == self.end(handle)
+    }
+
     pub fn start(self, handle: u32) -> u32 {
         self.word(handle, 1)
     }
@@ -47,5 +57,17 @@ impl Rows<'_> {
 
     pub fn last(self, handle: u32) -> u32 {
         self.word(handle, 7)
+    }
+
+    /// The bytes of the texts after a tag up to its last, if they lie in the page.
+    pub fn text(self, page: &[u8], handle: u32) -> Option<Vec<u8>> {
+        let mut text = Vec::new();
+        for below in handle + 1..=self.last(handle) {
+            if self.is_text(below) {
+                let (start, end) = (self.start(below), self.end(below));
+                text.extend_from_slice(page.get(start as usize..end as usize)?);
+            }
+        }
+        Some(text)
     }
 }
