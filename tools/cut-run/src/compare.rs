@@ -631,8 +631,8 @@ mod tests {
 
     #[test]
     fn a_wrong_text_of_the_whole_page_is_reported() {
-        let page = b"<a>x<b></b>";
-        let reader = Altered::new(Alteration::TextShortened, page.len());
+        let page = b"<a>x<b></b></a>y";
+        let reader = Altered::new(Alteration::TextShortened);
         let mut whole = Whole::new(page, &ONLY_TEXTS, &reader, &mut Counts::default());
         for n in 0..=page.len() {
             let mut counts = Counts::default();

@@ -245,7 +245,7 @@ fn shows_in(alteration: Alteration) -> Clause {
         }
         Alteration::TextRefused | Alteration::TextShortened => Clause::Text,
         Alteration::TextLengthened => Clause::TextBegins,
-        Alteration::WholeTextShortened => Clause::TextSame,
+        Alteration::ClosedTextShortened => Clause::TextSame,
     }
 }
 
@@ -261,7 +261,7 @@ fn self_test(options: &Options) -> bool {
             let (page, questions, mut random) = case(options.seed, number, false);
             let mut counts = Counts::default();
             let mut whole = Whole::new(&page, &questions, &Compiled, &mut counts);
-            let reader = Altered::new(alteration, page.len());
+            let reader = Altered::new(alteration);
             for n in 0..=page.len() {
                 whole.cut(n, &reader, &mut random, &mut counts);
                 let reported = std::mem::take(&mut whole.differences);
@@ -287,7 +287,7 @@ fn self_test(options: &Options) -> bool {
         let (mut altered, mut missed) = (0, 0);
         for number in 0..PAGES {
             let (page, questions, _) = case(options.seed, number, false);
-            let reader = Altered::new(alteration, page.len());
+            let reader = Altered::new(alteration);
             let whole = Whole::new(&page, &questions, &reader, &mut Counts::default());
             let all = &whole.differences;
             let reported = all.iter().any(|d| d.clause == Clause::DescendantsWhole);
@@ -305,7 +305,7 @@ fn self_test(options: &Options) -> bool {
     let page = b"x <p id=a><b k=v>1</b></p><!--c--> y";
     let dom = tl_rattle::parse(page).expect("it is not too long");
     let questions = questions(&mut Random::new(options.seed, 0), &dom, &SHORT);
-    let reader = Altered::new(Alteration::LastTagDropped, page.len());
+    let reader = Altered::new(Alteration::LastTagDropped);
     let least = smallest(page, &questions, &reader, Clause::Tags);
     let pass = least == b"<>";
     good &= pass;

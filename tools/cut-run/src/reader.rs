@@ -75,7 +75,7 @@ pub enum Alteration {
     TextRefused,
     TextLengthened,
     TextShortened,
-    WholeTextShortened,
+    ClosedTextShortened,
 }
 
 pub const ALTERATIONS: [Alteration; 26] = [
@@ -104,22 +104,19 @@ pub const ALTERATIONS: [Alteration; 26] = [
     Alteration::TextRefused,
     Alteration::TextLengthened,
     Alteration::TextShortened,
-    Alteration::WholeTextShortened,
+    Alteration::ClosedTextShortened,
 ];
 
 /// The calls with some answers altered.
 pub struct Altered {
     alteration: Alteration,
-    // how many bytes the whole page has
-    length: usize,
     taken: Cell<bool>,
 }
 
 impl Altered {
-    pub fn new(alteration: Alteration, length: usize) -> Altered {
+    pub fn new(alteration: Alteration) -> Altered {
         Altered {
             alteration,
-            length,
             taken: Cell::new(false),
         }
     }
@@ -305,7 +302,6 @@ impl Reader for Altered {
 
     fn text(&self, asked: Asked<'_>, handle: u32, out: &mut [u8]) -> Result<usize, Refusal> {
         let many = Compiled.text(asked, handle, out)?;
-        let whole = asked.page.len() == self.length;
         let altered = match self.alteration {
             Alteration::TextRefused => Err(Refusal::NotATag),
             Alteration::TextLengthened if many > 0 && many < out.len() => {
@@ -315,10 +311,19 @@ impl Reader for Altered {
                 Ok(many + 1)
             }
             Alteration::TextShortened if many > 0 => Ok(many - 1),
-            Alteration::WholeTextShortened if many > 0 && whole => Ok(many - 1),
+            Alteration::ClosedTextShortened if many > 0 && has_closing_tag(asked, handle) => {
+                Ok(many - 1)
+            }
             _ => return Ok(many),
         };
         self.take();
         altered
     }
+}
+
+/// Whether a whole closing tag closes the tag: then the whole page closes it there too, and all below it has ended.
+fn has_closing_tag(asked: Asked<'_>, handle: u32) -> bool {
+    let rows = Rows(asked.table);
+    let end = rows.end(handle);
+    end > rows.opened(handle) && asked.page[end as usize - 1] == b'>'
 }
