@@ -26,12 +26,22 @@ extern "C" {
 #define TL_SCAN 0u
 #define TL_CLOSED 1u
 
-/* A table: 8 words (node count, version, page length, 8, 8, three zeros), then 8 words a node: kind (1 tag, 2 text,
- * 3 comment), start, end, name start, name end, place after the opening '>', parent's handle plus 1, last descendant. */
-#define TL_ROW 8u
+/* A table: 8 words (node count, version, page length, 8, 9, three zeros), then 9 words a node: kind (1 tag, 2 text,
+ * 3 comment), start, end, name start, name end, place after the opening '>', parent's handle plus 1, last descendant, how a
+ * tag ended (0 for a text or comment). */
+#define TL_HEADER 8u
+#define TL_ROW 9u
+
+/* How a tag ended, word 8 of its row: it is open at the end of the page; a closing tag with its '>' closed it; one that the
+ * page's end cut short did; or it was never open, as its name is void or a '/' follows its name and attributes.
+ * Of a page that broke off word 8 may differ from the whole page's: 1 may become 0 or 2, and 0 and 2 each other. */
+#define TL_ENDED_OPEN 0u
+#define TL_ENDED_CLOSED 1u
+#define TL_ENDED_CUT_SHORT 2u
+#define TL_ENDED_NEVER_OPENED 3u
 
 /* The words of a table with so many rows. */
-#define TL_WORDS(rows) (TL_ROW + TL_ROW * (rows))
+#define TL_WORDS(rows) (TL_HEADER + TL_ROW * (rows))
 
 /* The most nodes that a page of so many bytes has: (2 * bytes + 1) / 3, rounded down, in a form that never wraps. It is proved
  * for every page, and for each length some page has as many (NodeBound in crates/maxnodes). So TL_WORDS(TL_MAX_NODES(bytes))

@@ -29,14 +29,14 @@ impl HeldAt {
     }
 }
 
-/// Reads a page into a table: how many nodes it has. A table of `8 + 8 * n` words has room for `n`.
+/// Reads a page into a table: how many nodes it has. A table of `8 + 9 * n` words has room for `n`.
 ///
 /// ```
-/// use tl_rattle::{calls, Refusal};
-/// let mut table = [0; 16];
+/// use tl_rattle::{calls, words_for, Refusal, HEADER_WORDS};
+/// let mut table = [0; words_for(1)];
 /// assert_eq!(calls::parse(b"a", &mut table), Ok(1));
-/// assert_eq!(table, [1, 0, 1, 8, 8, 0, 0, 0, 2, 0, 1, 0, 0, 0, 0, 0]);
-/// assert_eq!(calls::parse(b"a", &mut table[..8]), Err(Refusal::TableTooSmall));
+/// assert_eq!(table, [1, 0, 1, 8, 9, 0, 0, 0, 2, 0, 1, 0, 0, 0, 0, 0, 0]);
+/// assert_eq!(calls::parse(b"a", &mut table[..HEADER_WORDS]), Err(Refusal::TableTooSmall));
 /// ```
 ///
 /// # Errors

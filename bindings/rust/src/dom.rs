@@ -95,7 +95,7 @@ where
     })
 }
 
-/// Reads a page into a table that the caller lends, `8 + 8 * n` words for `n` nodes ([`words_for`]).
+/// Reads a page into a table that the caller lends, `8 + 9 * n` words for `n` nodes ([`words_for`]).
 ///
 /// A refusal leaves the table all zeros. Otherwise the words after the last row stay as they were.
 ///
@@ -158,7 +158,7 @@ impl<'a> Dom<'a> {
         self.page
     }
 
-    /// The page's table: 8 words of header, then 8 words a node.
+    /// The page's table: 8 words of header, then 9 words a node ([`words_for`]).
     #[inline]
     pub fn table(&self) -> &[u32] {
         &self.table

@@ -52,7 +52,7 @@ mod selector;
 pub mod sys;
 
 pub use dom::{parse, parse_into, Dom, HTMLVersion, Held, Manner};
-pub use node::{Children, Handle, Kind, Node, Nodes};
+pub use node::{Children, Ended, Handle, Kind, Node, Nodes};
 pub use refusal::Refusal;
 pub use selector::{parse_query_selector, Joiner, Piece, Simple};
 
@@ -62,12 +62,15 @@ pub const MAX_PAGE: usize = 65_536;
 /// The most bytes that a selector may have.
 pub const MAX_SELECTOR: usize = 128;
 
-/// The words of a table's header, and of a row.
-const ROW: usize = sys::TL_ROW as usize;
+/// The words of a table's header, before the first row.
+pub const HEADER_WORDS: usize = sys::TL_HEADER as usize;
 
-/// The words that a table of `nodes` nodes takes.
+/// The words of a table's row; a node has one row.
+pub const ROW_WORDS: usize = sys::TL_ROW as usize;
+
+/// The words that a table of `nodes` nodes takes: [`HEADER_WORDS`], and [`ROW_WORDS`] for each node.
 pub const fn words_for(nodes: usize) -> usize {
-    ROW + ROW * nodes
+    HEADER_WORDS + ROW_WORDS * nodes
 }
 
 /// The most nodes that a page of `bytes` bytes has: `(2 * bytes + 1) / 3`, rounded down.

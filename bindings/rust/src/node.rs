@@ -1,4 +1,4 @@
-use crate::{Dom, ROW};
+use crate::{sys, Dom, HEADER_WORDS, ROW_WORDS};
 
 /// A node's place in the table of its page.
 ///
@@ -45,6 +45,19 @@ pub enum Kind {
     Comment,
 }
 
+/// How a tag ended.
+#[derive(Debug, Clone, Copy, PartialEq, Eq, Hash)]
+pub enum Ended {
+    /// It did not: it is open at the end of the page.
+    Open,
+    /// A closing tag with its `>` closed it.
+    Closed,
+    /// A closing tag without its `>`, which the page's end cut short, closed it.
+    CutShort,
+    /// It was never open: its name is void, or a `/` follows its name and attributes.
+    NeverOpened,
+}
+
 /// A node of a page.
 #[derive(Clone, Copy)]
 pub struct Node<'d, 'a> {
@@ -61,7 +74,7 @@ impl<'d, 'a> Node<'d, 'a> {
 
     #[inline]
     fn word(&self, word: usize) -> usize {
-        self.dom.table()[ROW + ROW * self.handle.index() + word] as usize
+        self.dom.table()[HEADER_WORDS + ROW_WORDS * self.handle.index() + word] as usize
     }
 
     /// The node's handle.
@@ -118,7 +131,27 @@ impl<'d, 'a> Node<'d, 'a> {
         self.is_tag().then(|| self.word(5))
     }
 
-    /// Whether the node is a tag that a closing tag closed.
+    /// How a tag ended. Of a page that broke off this may differ from the whole page's: closed may become open or cut
+    /// short, and these two each other.
+    ///
+    /// ```
+    /// use tl_rattle::Ended;
+    /// let dom = tl_rattle::parse("<tr><td>120</td><td>XLON</td")?;
+    /// let ended: Vec<_> = dom.nodes().filter_map(|node| node.ended()).collect();
+    /// assert_eq!(ended, [Ended::Open, Ended::Closed, Ended::CutShort]);
+    /// # Ok::<(), tl_rattle::Refusal>(())
+    /// ```
+    #[inline]
+    pub fn ended(&self) -> Option<Ended> {
+        self.is_tag().then(|| match self.word(8) as u32 {
+            sys::TL_ENDED_OPEN => Ended::Open,
+            sys::TL_ENDED_CLOSED => Ended::Closed,
+            sys::TL_ENDED_CUT_SHORT => Ended::CutShort,
+            _ => Ended::NeverOpened,
+        })
+    }
+
+    /// Whether the node is a tag that a closing tag closed, with its `>` or cut short.
     #[inline]
     pub fn is_closed(&self) -> bool {
         self.opened().is_some_and(|opened| opened < self.end())
@@ -161,6 +194,7 @@ impl std::fmt::Debug for Node<'_, '_> {
             .field("opened", &self.opened())
             .field("parent", &self.parent().map(|node| node.handle.0))
             .field("last", &self.last().0)
+            .field("ended", &self.ended())
             .finish()
     }
 }

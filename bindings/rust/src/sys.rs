@@ -15,8 +15,18 @@
 pub const TL_SCAN: u32 = 0;
 /// The manner of a lookup over the closed tags, in closing order. Any number but 0 stands for it.
 pub const TL_CLOSED: u32 = 1;
-/// The words of a row, and those of the header before the first row.
-pub const TL_ROW: u32 = 8;
+/// The words of a table's header, before the first row.
+pub const TL_HEADER: u32 = 8;
+/// The words of a row.
+pub const TL_ROW: u32 = 9;
+/// Word 8 of a tag's row: the tag is open at the end of the page. A text and a comment have the same number there.
+pub const TL_ENDED_OPEN: u32 = 0;
+/// Word 8 of a tag's row: a closing tag with its `>` closed the tag.
+pub const TL_ENDED_CLOSED: u32 = 1;
+/// Word 8 of a tag's row: a closing tag that the page's end cut short closed the tag.
+pub const TL_ENDED_CUT_SHORT: u32 = 2;
+/// Word 8 of a tag's row: the tag was never open, as its name is void or a `/` follows its name and attributes.
+pub const TL_ENDED_NEVER_OPENED: u32 = 3;
 
 extern "C" {
     /// Reads a page into a table. `*count`: its nodes. Refused as 1, 2.

@@ -1,8 +1,9 @@
 //! The checked pages of document 01, and what the crate adds to the calls, through the safe interface.
 
 use tl_rattle::{
-    calls, max_nodes, parse, parse_into, parse_query_selector, words_for, Dom, HTMLVersion, Handle,
-    Held, Joiner, Kind, Manner, Node, Piece, Refusal, Simple, MAX_PAGE,
+    calls, max_nodes, parse, parse_into, parse_query_selector, sys, words_for, Dom, Ended,
+    HTMLVersion, Handle, Held, Joiner, Kind, Manner, Node, Piece, Refusal, Simple, HEADER_WORDS,
+    MAX_PAGE, ROW_WORDS,
 };
 
 /// A node's kind, start, end, and parent.
@@ -13,6 +14,15 @@ fn seen(node: Node<'_, '_>) -> (Kind, usize, usize, Option<u32>) {
 
 fn nodes(page: &str) -> Vec<(Kind, usize, usize, Option<u32>)> {
     parse(page).unwrap().nodes().map(seen).collect()
+}
+
+/// How each node of a page ended: word 8 of its row, and what the node answers.
+fn ended(page: &str) -> Vec<(u32, Option<Ended>)> {
+    let dom = parse(page).unwrap();
+    let rows = dom.table()[HEADER_WORDS..].chunks_exact(ROW_WORDS);
+    rows.zip(dom.nodes())
+        .map(|(row, node)| (row[8], node.ended()))
+        .collect()
 }
 
 fn handles(numbers: &[u32]) -> Vec<Handle> {
@@ -129,15 +139,44 @@ fn a_closing_tag_closes_the_innermost_only() {
 #[test]
 fn a_cut_may_close_a_tag() {
     let page = "<a></ab>";
-    assert!(!parse(page)
-        .unwrap()
-        .node(Handle::new(0))
-        .unwrap()
-        .is_closed());
+    let dom = parse(page).unwrap();
+    let tag = dom.node(Handle::new(0)).unwrap();
+    assert!(!tag.is_closed());
+    assert_eq!(tag.ended(), Some(Ended::Open));
     let dom = parse(&page[..6]).unwrap();
     let tag = dom.node(Handle::new(0)).unwrap();
     assert!(tag.is_closed());
+    assert_eq!(tag.ended(), Some(Ended::CutShort));
     assert_eq!((tag.start(), tag.end()), (0, 6));
+}
+
+#[test]
+fn how_a_tag_ended() {
+    let open = (sys::TL_ENDED_OPEN, Some(Ended::Open));
+    let closed = (sys::TL_ENDED_CLOSED, Some(Ended::Closed));
+    let cut_short = (sys::TL_ENDED_CUT_SHORT, Some(Ended::CutShort));
+    let never_opened = (sys::TL_ENDED_NEVER_OPENED, Some(Ended::NeverOpened));
+    let text = (0, None);
+    assert_eq!(ended("<p>"), [open]);
+    assert_eq!(ended("<p></p>"), [closed]);
+    assert_eq!(ended("<p></p"), [cut_short]);
+    assert_eq!(ended("<br>"), [never_opened]);
+    assert_eq!(ended("<p />"), [never_opened]);
+    // the slash belongs to the name
+    assert_eq!(ended("<br/>x"), [open, text]);
+    // `</a>` closes neither
+    assert_eq!(ended("<a><b></a>x"), [open, open, text]);
+}
+
+#[test]
+fn a_text_and_a_comment_do_not_end_as_tags_do() {
+    // a text; a comment with its end, an empty one, and one that the page's end cut short
+    for page in ["a", "<!--a-->", "<!---->", "<!--a"] {
+        assert_eq!(ended(page), [(0, None)], "{page}");
+    }
+    let closed = (sys::TL_ENDED_CLOSED, Some(Ended::Closed));
+    let page = "<p>a<!--b--></p>";
+    assert_eq!(ended(page), [closed, (0, None), (0, None)]);
 }
 
 #[test]
@@ -290,7 +329,7 @@ fn a_lent_table() {
     assert_eq!(dom.table().len(), words_for(3));
     assert_eq!(dom.query_selector("p"), Ok(handles(&[1])));
     // behind the last row nothing was written
-    assert_eq!(table[words_for(3)..], [9; 8]);
+    assert_eq!(table[words_for(3)..], [9; ROW_WORDS]);
     let again = Dom::from_table("<br><p>Hello</p>", &table).unwrap();
     assert_eq!(again.query_selector("p"), Ok(handles(&[1])));
     let other = Dom::from_table("<br><p>Hello</p", &table);
@@ -305,9 +344,9 @@ fn a_lent_table() {
 fn a_sound_table_that_no_reading_made() {
     // texts that overlap: the text below is longer than the page
     let page = b"<a>xyz";
-    let mut table = vec![4, 0, 6, 8, 8, 0, 0, 0, 1, 0, 3, 1, 2, 3, 0, 3];
+    let mut table = vec![4, 0, 6, 8, 9, 0, 0, 0, 1, 0, 3, 1, 2, 3, 0, 3, 0];
     for handle in 1..4 {
-        table.extend([2, 0, 6, 0, 0, 0, 1, handle]);
+        table.extend([2, 0, 6, 0, 0, 0, 1, handle, 0]);
     }
     let dom = Dom::from_table(page, &table).unwrap();
     let text = dom.inner_text(Handle::new(0)).unwrap();
@@ -328,10 +367,10 @@ fn what_the_table_held_before_makes_no_difference() {
     let page = "<!doctype html><a>1<b k=v>2<!--3--></b><br>4</a>5<d><e>";
     let dom = parse(page).unwrap();
     let words = dom.table().len();
-    for before in [0, 1, 2, 8, u32::MAX] {
-        let mut table = vec![before; words + 9];
+    for before in [0, 1, 2, 8, 9, u32::MAX] {
+        let mut table = vec![before; words + ROW_WORDS + 1];
         assert_eq!(calls::parse(page.as_bytes(), &mut table), Ok(dom.len()));
         assert_eq!(table[..words], *dom.table());
-        assert_eq!(table[words..], [before; 9]);
+        assert_eq!(table[words..], [before; ROW_WORDS + 1]);
     }
 }

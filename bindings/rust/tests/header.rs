@@ -4,6 +4,8 @@ use std::collections::BTreeMap;
 use std::io::Write;
 use std::process::{Command, Stdio};
 
+use tl_rattle::{max_nodes, sys, words_for, HEADER_WORDS, MAX_PAGE, ROW_WORDS};
+
 const HEADER: &str = include_str!("../../../include/tl.h");
 const SYS: &str = include_str!("../src/sys.rs");
 
@@ -78,24 +80,40 @@ fn the_numbers() {
     assert_eq!(
         defined,
         [
-            ("TL_SCAN", tl_rattle::sys::TL_SCAN),
-            ("TL_CLOSED", tl_rattle::sys::TL_CLOSED),
-            ("TL_ROW", tl_rattle::sys::TL_ROW),
+            ("TL_SCAN", sys::TL_SCAN),
+            ("TL_CLOSED", sys::TL_CLOSED),
+            ("TL_HEADER", sys::TL_HEADER),
+            ("TL_ROW", sys::TL_ROW),
+            ("TL_ENDED_OPEN", sys::TL_ENDED_OPEN),
+            ("TL_ENDED_CLOSED", sys::TL_ENDED_CLOSED),
+            ("TL_ENDED_CUT_SHORT", sys::TL_ENDED_CUT_SHORT),
+            ("TL_ENDED_NEVER_OPENED", sys::TL_ENDED_NEVER_OPENED),
         ]
     );
+    // and `sys` has no other
+    let constants: Vec<(&str, u32)> = SYS
+        .lines()
+        .filter_map(|line| line.strip_prefix("pub const "))
+        .map(|constant| constant.split_once(": u32 = ").expect("it is a u32"))
+        .map(|(name, value)| (name, value.trim_end_matches(';').parse().unwrap()))
+        .collect();
+    assert_eq!(defined, constants);
 }
 
-/// The header's macros with arguments, worked out by a C compiler, beside the functions.
+/// The header's room macros, worked out by a C compiler, beside the constants and functions.
 #[test]
 fn the_room_for_a_page() {
     let mut asserts = String::from("#include \"tl.h\"\n");
-    let lengths = (0..100).chain([65_535, tl_rattle::MAX_PAGE, usize::MAX - 1, usize::MAX]);
+    let lengths = (0..100).chain([65_535, MAX_PAGE, usize::MAX - 1, usize::MAX]);
     for bytes in lengths {
-        let nodes = tl_rattle::max_nodes(bytes);
+        let nodes = max_nodes(bytes);
         asserts += &format!("_Static_assert(TL_MAX_NODES((size_t){bytes}u) == {nodes}u, \"\");\n");
     }
-    for nodes in [0, 1, 3, 43_691] {
-        let words = tl_rattle::words_for(nodes);
+    for (name, words) in [("TL_HEADER", HEADER_WORDS), ("TL_ROW", ROW_WORDS)] {
+        asserts += &format!("_Static_assert({name} == {words}u, \"\");\n");
+    }
+    for (nodes, words) in [(0, 8), (1, 17), (3, 35), (43_691, 393_227)] {
+        assert_eq!(words_for(nodes), words);
         asserts += &format!("_Static_assert(TL_WORDS({nodes}u) == {words}u, \"\");\n");
     }
     let include = concat!(env!("CARGO_MANIFEST_DIR"), "/../../include");

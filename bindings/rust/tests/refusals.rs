@@ -1,16 +1,20 @@
 //! The refusals of document 01, by their examples; and through `sys`, that a refused call leaves zeros in all that was
 //! lent to it to be written.
 
-use tl_rattle::{calls, parse, parse_query_selector, sys, Dom, Handle, Manner, Refusal, MAX_PAGE};
+use tl_rattle::{
+    calls, parse, parse_query_selector, sys, words_for, Dom, Handle, Manner, Refusal, HEADER_WORDS,
+    MAX_PAGE,
+};
 
 #[test]
 fn the_examples() {
     let long = "a".repeat(MAX_PAGE + 1);
     assert_eq!(parse(&long).err(), Some(Refusal::PageTooLong));
-    let mut table = [7; 8];
+    let mut table = [7; HEADER_WORDS];
     let said = calls::parse(b"a", &mut table);
-    assert_eq!((said, table), (Err(Refusal::TableTooSmall), [0; 8]));
-    let mut table = [0; 16];
+    let zeros = [0; HEADER_WORDS];
+    assert_eq!((said, table), (Err(Refusal::TableTooSmall), zeros));
+    let mut table = [0; words_for(1)];
     table[0] = 1;
     let said = calls::range(b"a", &table, 0);
     assert_eq!(said, Err(Refusal::TableNotSound));
@@ -52,10 +56,11 @@ fn said_in_words() {
 #[test]
 fn any_words_as_a_table() {
     let page = b"a";
-    let mut one = [0; 16];
+    let mut one = [0; words_for(1)];
     one[0] = 1;
-    let header = [1, 0, 1, 8, 8, 0, 0, 0];
-    let tables: [&[u32]; 6] = [&[], &[0; 7], &[0; 8], &one, &header, &[u32::MAX; 40]];
+    let header = [1, 0, 1, 8, 9, 0, 0, 0];
+    let (short, zeros) = ([0; HEADER_WORDS - 1], [0; HEADER_WORDS]);
+    let tables: [&[u32]; 6] = [&[], &short, &zeros, &one, &header, &[u32::MAX; 40]];
     let refused = Refusal::TableNotSound;
     for table in tables {
         assert_eq!(calls::check(page, table), Err(refused));
@@ -99,7 +104,7 @@ impl Lent {
     fn refused() -> [(u32, Lent); 3] {
         let read = Lent::read("<p>a");
         let mut unsound = Lent::read("<p>a");
-        unsound.table[8 + 7] = 2;
+        unsound.table[HEADER_WORDS + 7] = 2;
         let long = Lent {
             page: vec![b'a'; MAX_PAGE + 1],
             table: read.table.clone(),
@@ -108,16 +113,110 @@ impl Lent {
     }
 }
 
+/// The header's word for the words in a row.
+const WORDS_IN_A_ROW: usize = 4;
+
+/// A row's word for the node's end.
+const END: usize = 2;
+
+/// A row's word for how a tag ended.
+const ENDED: usize = 8;
+
+/// What is said of the table of a page once the word at a place, which was `from`, is `to`. The table was accepted
+/// before, so that nothing but this word can be the reason.
+fn with_one_changed(page: &str, place: usize, from: u32, to: u32) -> Result<(), Refusal> {
+    let Lent { page, mut table } = Lent::read(page);
+    assert_eq!(calls::check(&page, &table), Ok(()));
+    assert_eq!(table[place], from);
+    table[place] = to;
+    calls::check(&page, &table)
+}
+
+/// The same of a word of the first row.
+fn with_row_changed(page: &str, word: usize, from: u32, to: u32) -> Result<(), Refusal> {
+    with_one_changed(page, HEADER_WORDS + word, from, to)
+}
+
+const NOT_SOUND: Result<(), Refusal> = Err(Refusal::TableNotSound);
+
+#[test]
+fn no_tag_ended_in_a_fifth_way() {
+    for (page, from) in [("<p>", 0), ("<p></p>", 1), ("<p></p", 2), ("<br>", 3)] {
+        for to in [4, u32::MAX] {
+            let said = with_row_changed(page, ENDED, from, to);
+            assert_eq!(said, NOT_SOUND, "{page} {to}");
+        }
+    }
+}
+
+#[test]
+fn a_text_or_comment_that_ended_as_a_tag() {
+    // word 5 of each is 0: the end of the first two would suit 1 and 2, that of the empty comment 3
+    for page in ["a", "<!--a-->", "<!---->"] {
+        for to in 1..=3 {
+            let said = with_row_changed(page, ENDED, 0, to);
+            assert_eq!(said, NOT_SOUND, "{page} {to}");
+        }
+    }
+}
+
+#[test]
+fn a_tag_that_is_not_closed_ends_where_it_opened() {
+    for (page, from) in [("<p></p>", 1), ("<p></p", 2)] {
+        for to in [0, 3] {
+            let said = with_row_changed(page, ENDED, from, to);
+            assert_eq!(said, NOT_SOUND, "{page} {to}");
+        }
+    }
+    assert_eq!(with_row_changed("<p>x", END, 3, 4), NOT_SOUND);
+    assert_eq!(with_row_changed("<br>x", END, 4, 5), NOT_SOUND);
+}
+
+#[test]
+fn a_closed_tag_ends_behind_its_opening() {
+    for (page, from) in [("<p>", 0), ("<br>", 3)] {
+        for to in [1, 2] {
+            let said = with_row_changed(page, ENDED, from, to);
+            assert_eq!(said, NOT_SOUND, "{page} {to}");
+        }
+    }
+    assert_eq!(with_row_changed("<p></p>", END, 7, 3), NOT_SOUND);
+    assert_eq!(with_row_changed("<p></p", END, 6, 3), NOT_SOUND);
+}
+
+#[test]
+fn a_tag_that_was_never_open_holds_nothing() {
+    assert_eq!(with_row_changed("<p>x", ENDED, 0, 3), NOT_SOUND);
+    assert_eq!(with_row_changed("<p><q>", ENDED, 0, 3), NOT_SOUND);
+}
+
+#[test]
+fn another_number_of_words_in_a_row() {
+    for page in ["", "a", "<p>x"] {
+        let said = with_one_changed(page, WORDS_IN_A_ROW, 9, 8);
+        assert_eq!(said, NOT_SOUND, "{page}");
+    }
+}
+
+#[test]
+fn what_the_places_leave_open_is_sound() {
+    assert_eq!(with_row_changed("<p>", ENDED, 0, 3), Ok(()));
+    assert_eq!(with_row_changed("<br>", ENDED, 3, 0), Ok(()));
+    assert_eq!(with_row_changed("<p></p>", ENDED, 1, 2), Ok(()));
+    assert_eq!(with_row_changed("<p></p", ENDED, 2, 1), Ok(()));
+}
+
 const FULL: usize = usize::MAX;
 
 #[test]
 fn a_reading_leaves_zeros() {
     let long = vec![b'a'; MAX_PAGE + 1];
-    let cases: [(u32, &[u8], usize); 5] = [
-        (1, &long, 32),
+    let cases: [(u32, &[u8], usize); 6] = [
+        (1, &long, words_for(3)),
         (1, &long, 0),
-        (2, b"a<>a", 24),
-        (2, b"", 7),
+        (2, b"a<>a", words_for(3) - 1),
+        (2, b"a<>a", words_for(2)),
+        (2, b"", HEADER_WORDS - 1),
         (2, b"", 0),
     ];
     for (number, page, words) in cases {

@@ -1,4 +1,4 @@
--- Texts of broken-off tags, as the public calls' definitions compute them: two pages cut at some of their bytes.
+-- Texts of broken-off tags, and how a tag ended, as the public calls' definitions compute them: pages cut at some of their bytes.
 use Prim.Native.Nat.{ℕ}
 use mathlib.Core.Path.{_≡_, refl}
 use mathlib.Core.List.{List, [], _∷_, map}
@@ -11,14 +11,14 @@ use Rattle.rules.specs.Lists.{from, each}
 use Rattle.rules.specs.Attributes.{attributesEnd}
 use Rattle.rules.specs.Lexer.{commentEnd, bang, tag, closing, markup, itemAt}
 use Rattle.rules.specs.Reader.{closeInto, put, step, steps, withLast}
-use Rattle.rules.specs.Table.{nodeAt, filled}
+use Rattle.rules.specs.Table.{rowAt, nodeAt, filled}
 use Rattle.rules.specs.Sound.{lastAt, all, reaching}
 use Rattle.rules.specs.Answers.{parseAnswer, parseTable, textAnswer, textBuffer}
 use Rattle.cut.specs.Text.{given}
 
 -- five rows are enough
 abbrev table : List ℕ → List ℕ
-table p = parseTable isWhite isVoid p (replicate 48 0)
+table p = parseTable isWhite isVoid p (replicate (rowAt 5) 0)
 
 -- the text of the page's first tag in its first n bytes
 abbrev textTo : List ℕ → ℕ → List ℕ
@@ -43,3 +43,15 @@ texts : (map (textTo commented) (3 ∷ 4 ∷ 5 ∷ 8 ∷ 9 ∷ 14 ∷ [])
 unfolding span agree from each oneOf attributesEnd commentEnd bang tag closing markup itemAt closeInto put step steps withLast
     nodeAt filled all reaching parseAnswer parseTable textAnswer textBuffer
 texts = (refl, refl, refl)
+
+-- how the page's first tag ended in its first n bytes
+abbrev endedTo : List ℕ → ℕ → ℕ
+endedTo p n = nodeAt (table (take n p)) 0 .ended
+
+-- so no clause of `CutOff` can speak of it: 1 in the whole page is 0 and 2 in beginnings, 0 is 2, and 2 is 0
+endings : (map (endedTo (bytes "<p></p>")) (7 ∷ 6 ∷ 3 ∷ []) ≡ 1 ∷ 2 ∷ 0 ∷ [])
+    × (map (endedTo (bytes "<a></ab>")) (8 ∷ 6 ∷ []) ≡ 0 ∷ 2 ∷ [])
+    × (map (endedTo (bytes "<p></p")) (6 ∷ 3 ∷ []) ≡ 2 ∷ 0 ∷ [])
+unfolding span agree from each oneOf attributesEnd commentEnd bang tag closing markup itemAt closeInto put step steps withLast
+    nodeAt filled all reaching parseAnswer parseTable textAnswer textBuffer
+endings = (refl, refl, refl)

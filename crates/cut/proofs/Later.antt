@@ -3,7 +3,7 @@
 use Prim.Native.Nat.{ℕ, zero, suc, _≤_, _<_, pred}
 use native.Mathlib.Omega.{arith}
 use native.Mathlib.Decide.{decLt}
-use mathlib.Core.Bool.{Bool}
+use mathlib.Core.Bool.{Bool, _||_}
 use mathlib.Core.Path.{_≡_, refl, ap, _∙_}
 use mathlib.Core.List.{List, [], _∷_, _++_}
 use lib.ListN.{length, set, length-append, length-set, List·getD-append}
@@ -15,13 +15,13 @@ use Rattle.rules.specs.declared.Item.{Item}
 use Rattle.rules.specs.declared.Item.the-variants.{Text, Close, Comment, Doctype, Tag, Nothing}
 use Rattle.rules.specs.Lexer.{next, itemAt}
 use Rattle.rules.specs.declared.Node.{Node}
-use Rattle.rules.specs.Reader.{noNode, node, Reading, leaf, tagNode, closed, closeInto, put, step, steps, withLast}
+use Rattle.rules.specs.Reader.{noNode, node, Reading, leaf, tagNode, closed, settled, endedBy, closeInto, put, step, steps, withLast}
 use Rattle.rules.specs.Facts.{Tags, Fine}
 use Rattle.rules.proofs.Pick.{cases}
 use Rattle.laws.proofs.CutLexer.{Formed, item-grows, item-formed}
 use Rattle.laws.proofs.Nodes.{snoc-all, set-all, SameTag, same-closed, Ext, ext-refl, ext-trans, ext-set}
 use Rattle.laws.proofs.Lockstep.{put-at, put-ext}
-use Rattle.laws.proofs.Soundness.{tags-ext, put-fine}
+use Rattle.laws.proofs.Soundness.{tags-set, put-fine}
 
 -- ms has the nodes of ns, texts and comments unchanged, and then others
 pub record Grows (ns ms : List Node) : Type 0 where
@@ -42,39 +42,39 @@ grows-set : (ns : List Node) (i : ℕ) (y : Node) → node ns i .kind ≡ 1 → 
 grows-set ns i y one s =
     record { ext = ext-set 0 ns i y s; leaf = λ h l k. getD-set-other ns i h y noNode (λ e. k (ap (λ (j : ℕ). node ns j .kind) e ∙ one)) }
 
-pub grows-last : (l : ℕ) (hs : List ℕ) (ns : List Node) → Tags ns hs → Grows ns (withLast l hs ns)
+pub grows-last : (l b : ℕ) (hs : List ℕ) (ns : List Node) → Tags ns b hs → Grows ns (withLast l hs ns)
 unfolding withLast
-grows-last l [] ns T = grows-refl ns
-grows-last l (h ∷ hs) ns T =
-    let y : Node = closed (node ns h) (node ns h .end) l in
-    let s : SameTag (node ns h) y = same-closed (node ns h) (node ns h .end) l in
-    grows-trans (grows-set ns h y (T .0) s) (grows-last l hs (set ns h y) (tags-ext hs (ext-set 0 ns h y s) (T .1)))
+grows-last l b [] ns T = grows-refl ns
+grows-last l b (h ∷ hs) ns T =
+    let t : Node = node ns h in
+    let y : Node = settled t l in
+    grows-trans (grows-set ns h y (T .1) (same-closed t (t .end) l (t .ended))) (grows-last l h hs (set ns h y) (tags-set ns h h y hs (omega arith) (T .3)))
 
 module _ (white : ℕ → Bool) (void : List ℕ → Bool) (p : List ℕ) where
   snoc-leaf : (ns : List Node) (x : Node) (h : ℕ) → h < length ns → node (ns ++ (x ∷ [])) h ≡ node ns h
   snoc-leaf ns x h l = List·getD-append ns (x ∷ []) noNode h l
 
-  close-leaf : (r : Reading) (a e n : ℕ) (hs : List ℕ) → Tags (r .nodes) hs → (h : ℕ) → (node (r .nodes) h .kind ≡ 1 → ⊥)
+  close-leaf : (r : Reading) (a e n b : ℕ) (hs : List ℕ) → Tags (r .nodes) b hs → (h : ℕ) → (node (r .nodes) h .kind ≡ 1 → ⊥)
       → node (closeInto void p r a e n hs .nodes) h ≡ node (r .nodes) h
   unfolding closeInto
-  close-leaf r a e n [] T h k = refl
-  close-leaf r a e n (i ∷ hs) T h k =
+  close-leaf r a e n b [] T h k = refl
+  close-leaf r a e n b (i ∷ hs) T h k =
       cases (λ (s : Reading). node (s .nodes) h ≡ node (r .nodes) h)
       (same (part p (node (r .nodes) i .name) (node (r .nodes) i .stop)) (part p a e))
-      (λ t. getD-set-other (r .nodes) i h (closed (node (r .nodes) i) n (pred (length (r .nodes)))) noNode other)
+      (λ t. getD-set-other (r .nodes) i h (closed (node (r .nodes) i) n (pred (length (r .nodes))) (endedBy e n)) noNode other)
       (λ t. refl)
     where
       other : h ≡ i → ⊥
-      other q = k (ap (λ (j : ℕ). node (r .nodes) j .kind) q ∙ T .0)
+      other q = k (ap (λ (j : ℕ). node (r .nodes) j .kind) q ∙ T .1)
 
   put-leaf : (r : Reading) (i : Item) → Fine r → (h : ℕ) → h < length (r .nodes) → (node (r .nodes) h .kind ≡ 1 → ⊥)
       → node (put void p r i .nodes) h ≡ node (r .nodes) h
   unfolding put
   put-leaf r (Text e) F h l k = snoc-leaf (r .nodes) (leaf r 2 (r .at) e) h l
-  put-leaf r (Close a e n) F h l k = close-leaf r a e n (r .opens) (F .tags) h k
+  put-leaf r (Close a e n) F h l k = close-leaf r a e n (length (r .nodes)) (r .opens) (F .tags) h k
   put-leaf r (Comment a e n) F h l k = snoc-leaf (r .nodes) (leaf r 3 a e) h l
   put-leaf r (Doctype b n) F h l k = refl
-  put-leaf r (Tag a e n s) F h l k = snoc-leaf (r .nodes) (tagNode r a e n) h l
+  put-leaf r (Tag a e n s) F h l k = snoc-leaf (r .nodes) (tagNode r a e n (s || void (part p a e))) h l
   put-leaf r (Nothing n) F h l k = refl
 
   pub put-grows : (r : Reading) (i : Item) → r .at < next i → Fine r → Grows (r .nodes) (put void p r i .nodes)
@@ -123,7 +123,7 @@ module _ (white : ℕ → Bool) (void : List ℕ → Bool) (p : List ℕ) where
         (λ t. L .nodes)
       where
         y : Node
-        y = closed (node (r .nodes) i) x (pred (length (r .nodes)))
+        y = closed (node (r .nodes) i) x (pred (length (r .nodes))) (endedBy e x)
 
     put-ends : (r : Reading) (i : Item) → c ≤ length (r .nodes) → n < next i → Formed (r .at) i → Late r
         → EndLate (put void p r i .nodes)
@@ -136,7 +136,7 @@ module _ (white : ℕ → Bool) (void : List ℕ → Bool) (p : List ℕ) where
         first (yes y) z = absurd (omega (arith, L .at y, f .0, f .3))
         first (no y) z = omega arith
     put-ends r (Doctype b x) m l f L = L .nodes
-    put-ends r (Tag a e x s) m l f L = add r (tagNode r a e x) L (λ z. absurd (omega arith))
+    put-ends r (Tag a e x s) m l f L = add r (tagNode r a e x (s || void (part p a e))) L (λ z. absurd (omega arith))
     put-ends r (Nothing x) m l f L = L .nodes
 
     steps-late : (k : ℕ) (r : Reading) → c ≤ length (r .nodes) → (r .at < length p → n < next (item r)) → Late r
@@ -165,7 +165,7 @@ module _ (white : ℕ → Bool) (void : List ℕ → Bool) (p : List ℕ) where
         E (λ b j k. E i j k) h u (omega (arith, length-set ns i y)))
       where
         y : Node
-        y = closed (node ns i) (node ns i .end) l
+        y = settled (node ns i) l
 
     -- the nodes of a reading that goes on from r, with its c nodes, to the end
     pub late : (k : ℕ) (r : Reading) → length (r .nodes) ≡ c → (r .at < length p → n < next (item r)) → (l : ℕ) (hs : List ℕ)

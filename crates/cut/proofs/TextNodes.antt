@@ -3,7 +3,7 @@
 use Prim.Native.Nat.{ℕ, zero, suc, _+_, _-_, _≤_, _<_, pred}
 use native.Mathlib.Omega.{arith}
 use native.Mathlib.Decide.{decLt, ℕ-discrete}
-use mathlib.Core.Bool.{Bool, true, false}
+use mathlib.Core.Bool.{Bool, true, false, _||_}
 use mathlib.Core.Logic.{_⊎_, inl, inr}
 use mathlib.Core.Path.{_≡_, refl, sym, ap, _∙_}
 use mathlib.Core.List.{List, [], _∷_, _++_}
@@ -68,7 +68,7 @@ module _ (void : List ℕ → Bool) (p : List ℕ) (r : Reading) where
       let z : _≡_ {A = ℕ} 3 2 = sym (ap (λ (t : Node). t .kind) (seam (leaf r 3 a e))) ∙ k in omega arith
   no-text-added (Doctype h n) t k = none-added (Doctype h n) refl k
   no-text-added (Tag a e n s) t k =
-      let z : _≡_ {A = ℕ} 1 2 = sym (ap (λ (t : Node). t .kind) (seam (tagNode r a e n))) ∙ k in omega arith
+      let z : _≡_ {A = ℕ} 1 2 = sym (ap (λ (t : Node). t .kind) (seam (tagNode r a e n (s || void (part p a e))))) ∙ k in omega arith
   no-text-added (Nothing n) t k = none-added (Nothing n) refl k
 
   -- a text stays as it is
@@ -128,7 +128,7 @@ module _ (white : ℕ → Bool) (void : List ℕ → Bool) (p : List ℕ) (n : �
       rw o
       (record {
         within = omega arith;
-        grows = grows-last (pred c) (R .opens) (R .nodes) (R-fine .tags);
+        grows = grows-last (pred c) c (R .opens) (R .nodes) (R-fine .tags);
         tags = λ b. ext-last b (pred c) (R .opens) (R .nodes);
         few = omega (arith, last-length (pred c) (R .opens) (R .nodes));
       })
@@ -140,7 +140,7 @@ module _ (white : ℕ → Bool) (void : List ℕ → Bool) (p : List ℕ) (n : �
       rw o
       (record {
         within = omega arith;
-        grows = grows-trans (put-grows white void q R item (omega arith) R-fine) (grows-last k (u .opens) (u .nodes) (F .tags));
+        grows = grows-trans (put-grows white void q R item (omega arith) R-fine) (grows-last k (length (u .nodes)) (u .opens) (u .nodes) (F .tags));
         tags =
             λ b.
             ext-trans (put-ext white void b q R item (λ t. let w : _≡_ {A = ℕ} 0 1 = cc in absurd (omega arith)))
@@ -159,7 +159,7 @@ module _ (white : ℕ → Bool) (void : List ℕ → Bool) (p : List ℕ) (n : �
       let t : Reading = steps white void p k r in
       rw e
       (grows-trans (steps-grows white void p k r F)
-      (grows-last (pred (length (t .nodes))) (t .opens) (t .nodes) (steps-fine white void p k r l F .0 .tags)))
+      (grows-last (pred (length (t .nodes))) (length (t .nodes)) (t .opens) (t .nodes) (steps-fine white void p k r l F .0 .tags)))
 
   whole-grows : Grows (R .nodes) ms
   whole-grows = settled (meeting .rest) R (omega (arith, ending .within)) R-fine (meeting .going)
@@ -211,7 +211,7 @@ module _ (white : ℕ → Bool) (void : List ℕ → Bool) (p : List ℕ) (n : �
     in-ns =
         let u : Reading = put void q R (Text n) in
         let F : Fine u = put-fine white void q R (Text n) d tt R-fine in
-        text-stays void q R n ns (rw o (grows-last (pred (length (u .nodes))) (u .opens) (u .nodes) (F .tags)))
+        text-stays void q R n ns (rw o (grows-last (pred (length (u .nodes))) (length (u .nodes)) (u .opens) (u .nodes) (F .tags)))
 
     -- the whole page's reading takes that text, since it comes to the end
     whole-on : (k : ℕ) → all ≡ steps white void p k R → Grows (put void p R (Text e) .nodes) ms

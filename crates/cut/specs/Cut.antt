@@ -42,7 +42,8 @@ pub record Alike (ws : List ℕ) (a : Counted) (out : List ℕ) (b : Counted) (o
 
 -- ---- the statement
 
--- q is the beginning, of n bytes, of the page p; ws and vs are their tables, each as its own reading left it
+-- q is the beginning, of n bytes, of the page p; ws and vs are their tables, each as its own reading left it. There is no clause on a
+-- tag's end, nor on how it ended (word 8): a cut may turn 1 into 0 or 2, and 0 and 2 into each other (proofs/Examples).
 pub record CutOff (white : ℕ → Bool) (n : ℕ) (q ws p vs : List ℕ) : Type 0 where
   -- 1. the beginning's tags are the whole page's whose opening `>` lies before the cut: word 5 is the place after it
   pub tags : (h : ℕ) → IsTag ws h ↔ (IsTag vs h × (nodeAt vs h .opened ≤ n))

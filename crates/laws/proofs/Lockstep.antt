@@ -2,7 +2,7 @@
 use Prim.Native.Nat.{ℕ, zero, suc, _-_, _≤_, _<_, pred}
 use native.Mathlib.Omega.{arith}
 use native.Mathlib.Decide.{decLt}
-use mathlib.Core.Bool.{Bool, true, false}
+use mathlib.Core.Bool.{Bool, true, false, _||_}
 use mathlib.Core.Path.{_≡_, refl, _∙_}
 use mathlib.Core.List.{List, [], _∷_}
 use lib.ListN.{length, take}
@@ -14,7 +14,7 @@ use Rattle.rules.specs.declared.Item.{Item}
 use Rattle.rules.specs.declared.Item.the-variants.{Text, Close, Comment, Doctype, Tag, Nothing}
 use Rattle.rules.specs.Lexer.{next, isTag, itemAt}
 use Rattle.rules.specs.declared.Node.{Node}
-use Rattle.rules.specs.Reader.{node, Reading, leaf, tagNode, closed, closeInto, put, step, steps, begin, read}
+use Rattle.rules.specs.Reader.{node, Reading, leaf, tagNode, closed, endedBy, closeInto, put, step, steps, begin, read}
 use Rattle.laws.proofs.Cut.{length-cut}
 use Rattle.rules.proofs.Pick.{cases}
 use Rattle.laws.proofs.CutLexer.{Cut, whole, past, nameTo, Formed, formed-named, part-cut, item-cut, item-grows, item-formed}
@@ -42,8 +42,9 @@ module _ (white : ℕ → Bool) (void : List ℕ → Bool) where
   close-ext b p r a e n [] = ext-refl b (r .nodes)
   close-ext b p r a e n (h ∷ hs) =
       cases (λ (s : Reading). Ext b (r .nodes) (s .nodes)) (same (part p (node (r .nodes) h .name) (node (r .nodes) h .stop)) (part p a e))
-      (λ t. let l : ℕ = pred (length (r .nodes)) in
-      ext-set b (r .nodes) h (closed (node (r .nodes) h) n l) (same-closed (node (r .nodes) h) n l))
+      (λ _. let l : ℕ = pred (length (r .nodes)) in
+      let t : Node = node (r .nodes) h in
+      ext-set b (r .nodes) h (closed t n l (endedBy e n)) (same-closed t n l (endedBy e n)))
       (λ t. ext-refl b (r .nodes))
 
   pub put-ext : (b : ℕ) (p : List ℕ) (r : Reading) (i : Item) → (isTag i ≡ true → b < next i) → Ext b (r .nodes) (put void p r i .nodes)
@@ -52,7 +53,7 @@ module _ (white : ℕ → Bool) (void : List ℕ → Bool) where
   put-ext b p r (Close a e n) c = close-ext b p r a e n (r .opens)
   put-ext b p r (Comment a e n) c = ext-snoc b (r .nodes) (leaf r 3 a e) (λ z. let o : _≡_ {A = ℕ} 3 1 = z in absurd (omega arith))
   put-ext b p r (Doctype h n) c = ext-refl b (r .nodes)
-  put-ext b p r (Tag a e n s) c = ext-snoc b (r .nodes) (tagNode r a e n) (λ z. c refl)
+  put-ext b p r (Tag a e n s) c = ext-snoc b (r .nodes) (tagNode r a e n (s || void (part p a e))) (λ z. c refl)
   put-ext b p r (Nothing n) c = ext-refl b (r .nodes)
 
   -- names and openings lie before the place
@@ -67,7 +68,8 @@ module _ (white : ℕ → Bool) (void : List ℕ → Bool) where
   close-good p r a e n [] g l = λ h. omega (arith, g h)
   close-good p r a e n (h ∷ hs) g l =
       cases Good (same (part p (node (r .nodes) h .name) (node (r .nodes) h .stop)) (part p a e))
-      (λ t. set-all (λ k. Before n) (r .nodes) h (closed (node (r .nodes) h) n (pred (length (r .nodes)))) (λ k. omega (arith, g k)) (λ k. omega (arith, g h)))
+      (λ t. let y : Node = closed (node (r .nodes) h) n (pred (length (r .nodes))) (endedBy e n) in
+      set-all (λ k. Before n) (r .nodes) h y (λ k. omega (arith, g k)) (λ k. omega (arith, g h)))
       (λ t k. omega (arith, g k))
 
   pub put-good : (p : List ℕ) (r : Reading) (i : Item) → Good r → r .at ≤ next i → Formed (r .at) i → Good (put void p r i)
@@ -76,7 +78,8 @@ module _ (white : ℕ → Bool) (void : List ℕ → Bool) where
   put-good p r (Close a e n) g l m = close-good p r a e n (r .opens) g l
   put-good p r (Comment a e n) g l m = snoc-all (λ k. Before n) (r .nodes) (leaf r 3 a e) (λ h k. omega (arith, g h)) (omega arith) (λ h k. omega arith)
   put-good p r (Doctype h n) g l m = λ k. omega (arith, g k)
-  put-good p r (Tag a e n s) g l m = snoc-all (λ k. Before n) (r .nodes) (tagNode r a e n) (λ h k. omega (arith, g h)) (omega arith) (λ h k. omega arith)
+  put-good p r (Tag a e n s) g l m =
+      snoc-all (λ k. Before n) (r .nodes) (tagNode r a e n (s || void (part p a e))) (λ h k. omega (arith, g h)) (omega arith) (λ h k. omega arith)
   put-good p r (Nothing n) g l m = λ k. omega (arith, g k)
 
   -- an item within the first n bytes does the same to both

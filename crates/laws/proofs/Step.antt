@@ -1,7 +1,7 @@
 -- What one step of the reader takes and adds: a text, or something that begins with `<`, and at most one node.
 use Prim.Native.Nat.{ℕ, zero, suc, _+_, _-_, _≤_, _<_, pred}
 use native.Mathlib.Omega.{arith}
-use mathlib.Core.Bool.{Bool, true, false, _&&_}
+use mathlib.Core.Bool.{Bool, true, false, _&&_, _||_}
 use mathlib.Core.Path.{_≡_, refl, _∙_}
 use mathlib.Core.List.{List, [], _∷_}
 use lib.ListN.{length, length-append, length-set}
@@ -13,7 +13,7 @@ use Rattle.rules.specs.declared.Item.{Item}
 use Rattle.rules.specs.declared.Item.the-variants.{Text, Close, Comment, Doctype, Tag, Nothing}
 use Rattle.rules.specs.Lexer.{next, commentEnd, sameLower, doctypeName, tagTo, closing, bang, tag, markup, itemAt}
 use Rattle.rules.specs.Attributes.{attributesEnd}
-use Rattle.rules.specs.Reader.{Reading, node, leaf, tagNode, closed, closeInto, put, step, steps}
+use Rattle.rules.specs.Reader.{Reading, node, leaf, tagNode, closed, endedBy, closeInto, put, step, steps}
 use Rattle.rules.proofs.Pick.{cases}
 use Rattle.laws.proofs.CutLexer.{Formed, item-grows, item-formed}
 use Rattle.laws.proofs.Lockstep.{put-at}
@@ -42,7 +42,7 @@ module _ (void : List ℕ → Bool) (p : List ℕ) where
   close-count r a e n [] = refl
   close-count r a e n (h ∷ hs) =
       cases (λ (s : Reading). length (s .nodes) ≡ length (r .nodes)) (same (part p (node (r .nodes) h .name) (node (r .nodes) h .stop)) (part p a e))
-      (λ t. length-set (r .nodes) h (closed (node (r .nodes) h) n (pred (length (r .nodes)))))
+      (λ t. length-set (r .nodes) h (closed (node (r .nodes) h) n (pred (length (r .nodes))) (endedBy e n)))
       (λ t. refl)
 
   pub put-count : (r : Reading) (i : Item) → length (put void p r i .nodes) ≡ length (r .nodes) + adds i
@@ -51,7 +51,7 @@ module _ (void : List ℕ → Bool) (p : List ℕ) where
   put-count r (Close a e n) = close-count r a e n (r .opens) ∙ omega arith
   put-count r (Comment a e n) = length-append (r .nodes) (leaf r 3 a e ∷ [])
   put-count r (Doctype h n) = omega arith
-  put-count r (Tag a e n s) = length-append (r .nodes) (tagNode r a e n ∷ [])
+  put-count r (Tag a e n s) = length-append (r .nodes) (tagNode r a e n (s || void (part p a e)) ∷ [])
   put-count r (Nothing n) = omega arith
 
 -- ---- a text, or something that begins with `<`

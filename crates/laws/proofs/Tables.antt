@@ -106,6 +106,7 @@ module _ (len v : ℕ) {ws t : List ℕ} {ns : List Node} (S : Sound len ns) (F 
             let z : node ns h .parent ≡ 0 → ⊥ = λ o. k (parent-right h l ∙ o) in
             let s : node ns h .parent ≡ suc q = omega arith in
             rw (parent-right h l, last-at h l, last-at q (omega (arith, N .lower h l))) (N .reached h q l s .1);
+        ended = rw e (n .ended);
       })
 
   sound-filled : Known v → sound len ws ≡ true

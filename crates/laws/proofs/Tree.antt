@@ -15,7 +15,7 @@ use Rattle.rules.specs.declared.Item.{Item}
 use Rattle.rules.specs.declared.Item.the-variants.{Text, Close, Comment, Doctype, Tag, Nothing}
 use Rattle.rules.specs.Lexer.{next, itemAt}
 use Rattle.rules.specs.declared.Node.{Node}
-use Rattle.rules.specs.Reader.{node, Reading, noNode, parentOf, leaf, tagNode, closed, closeInto, put, step, steps, begin, withLast, read}
+use Rattle.rules.specs.Reader.{node, Reading, noNode, parentOf, leaf, tagNode, closed, settled, endedBy, closeInto, put, step, steps, begin, withLast, read}
 use Rattle.rules.proofs.Pick.{cases}
 use Rattle.laws.proofs.Nodes.{set-all, ext-last}
 use Rattle.laws.proofs.Nested.{Nested, Under, child, deeper, under-same, nested-cong, nested-add, range-under, under-range}
@@ -138,16 +138,17 @@ module _ (ns : List Node) (hs : List ℕ) (S : Shape ns hs) (x : Node) (xp : x .
       (λ d l. rw (ne-eqb d (length ns) (λ e. omega (arith, e, l))))
 
 -- the innermost open tag closed
-pub shape-close : (ns : List Node) (h : ℕ) (hs : List ℕ) (e : ℕ) → Shape ns (h ∷ hs) → Shape (set ns h (closed (node ns h) e (pred (length ns)))) hs
+pub shape-close : (ns : List Node) (h : ℕ) (hs : List ℕ) (e x : ℕ) → Shape ns (h ∷ hs)
+    → Shape (set ns h (closed (node ns h) e (pred (length ns)) x)) hs
 unfolding mem
-shape-close ns h hs e S =
+shape-close ns h hs e x S =
     record {
       chain = rw (length-set ns h y) (chain-cong ns (set ns h y) h (length ns) hs (omega (arith, S .chain .0)) (λ d l. all d) (S .chain .2));
       nested = rw (length-set ns h y) (nested-cong (S .nested) (λ d l. all d) (λ d l. lasts d (ℕ-discrete d h)));
     }
   where
     y : Node
-    y = closed (node ns h) e (pred (length ns))
+    y = closed (node ns h) e (pred (length ns)) x
 
     all : (d : ℕ) → parents (set ns h y) d ≡ parents ns d
     all = set-all (λ d t. t .parent ≡ parents ns d) ns h y (λ d. refl) (λ l. refl)
@@ -160,7 +161,7 @@ shape-close ns h hs e S =
 pub last-length : (l : ℕ) (hs : List ℕ) (ns : List Node) → length (withLast l hs ns) ≡ length ns
 unfolding withLast
 last-length l [] ns = refl
-last-length l (h ∷ hs) ns = last-length l hs (set ns h (closed (node ns h) (node ns h .end) l)) ∙ length-set ns h (closed (node ns h) (node ns h .end) l)
+last-length l (h ∷ hs) ns = let y : Node = settled (node ns h) l in last-length l hs (set ns h y) ∙ length-set ns h y
 
 last-is : (l : ℕ) (hs : List ℕ) (ns : List Node) (g : ℕ) → g < length ns → node (withLast l hs ns) g .last ≡ pick (mem g hs) l (node ns g .last)
 unfolding withLast mem
@@ -169,7 +170,7 @@ last-is l (h ∷ hs) ns g b =
     last-is l hs (set ns h y) g (rw (length-set ns h y) b) ∙ go (ℕ-discrete g h)
   where
     y : Node
-    y = closed (node ns h) (node ns h .end) l
+    y = settled (node ns h) l
 
     go : Dec (g ≡ h) → pick (mem g hs) l (node (set ns h y) g .last) ≡ pick (pick (eqb g h) true (mem g hs)) l (node ns g .last)
     go (yes q) = rw (q, eq-eqb h h refl, getD-set-same ns h y noNode (rw q at b)) (cases (λ (v : ℕ). v ≡ l) (mem h hs) (λ t. refl) (λ t. refl))
@@ -189,7 +190,7 @@ module _ (white : ℕ → Bool) (void : List ℕ → Bool) (p : List ℕ) where
   close-shape r a e n [] q S = S
   close-shape r a e n (h ∷ hs) q S =
       cases Shaped (same (part p (node (r .nodes) h .name) (node (r .nodes) h .stop)) (part p a e))
-      (λ t. shape-close (r .nodes) h hs n (rw q at S)) (λ t. S)
+      (λ t. shape-close (r .nodes) h hs n (endedBy e n) (rw q at S)) (λ t. S)
 
   put-shape : (r : Reading) (i : Item) → Shaped r → Shaped (put void p r i)
   unfolding put
@@ -197,7 +198,8 @@ module _ (white : ℕ → Bool) (void : List ℕ → Bool) (p : List ℕ) where
   put-shape r (Close a e n) S = close-shape r a e n (r .opens) refl S
   put-shape r (Comment a e n) S = shape-add (r .nodes) (r .opens) S (leaf r 3 a e) refl refl true
   put-shape r (Doctype h n) S = S
-  put-shape r (Tag a e n s) S = shape-add (r .nodes) (r .opens) S (tagNode r a e n) refl refl (s || void (part p a e))
+  put-shape r (Tag a e n s) S =
+      let shut : Bool = s || void (part p a e) in shape-add (r .nodes) (r .opens) S (tagNode r a e n shut) refl refl shut
   put-shape r (Nothing n) S = S
 
   steps-shape : (k : ℕ) (r : Reading) → Shaped r → Shaped (steps white void p k r)

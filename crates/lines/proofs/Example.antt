@@ -3,6 +3,7 @@ use mathlib.Core.Path.{_≡_, refl}
 use mathlib.Core.List.{List, [], _∷_, _++_}
 use Prim.Native.Nat.{ℕ}
 use Rattle.rules.specs.Lists.{from, each}
+use Rattle.rules.specs.Questions.{tagRow, textRow}
 use Rattle.rules.specs.Table.{nodeAt}
 use Rattle.lines.specs.Decimal.{digits, decimal}
 use Rattle.lines.specs.Lines.{nodeLine, headLine, listingText}
@@ -13,10 +14,7 @@ page = 60 ∷ 98 ∷ 114 ∷ 62 ∷ 60 ∷ 112 ∷ 62 ∷ 72 ∷ 101 ∷ 108 ∷
 -- the header, and three rows
 abbrev table : List ℕ
 table =
-    (3 ∷ 0 ∷ 16 ∷ 8 ∷ 8 ∷ 0 ∷ 0 ∷ 0 ∷ [])
-    ++ ((1 ∷ 0 ∷ 4 ∷ 1 ∷ 3 ∷ 4 ∷ 0 ∷ 0 ∷ [])
-    ++ ((1 ∷ 4 ∷ 16 ∷ 5 ∷ 6 ∷ 7 ∷ 0 ∷ 2 ∷ [])
-    ++ (2 ∷ 7 ∷ 12 ∷ 0 ∷ 0 ∷ 0 ∷ 2 ∷ 2 ∷ [])))
+    (3 ∷ 0 ∷ 16 ∷ 8 ∷ 9 ∷ 0 ∷ 0 ∷ 0 ∷ []) ++ (tagRow 0 4 1 3 4 0 0 3 ++ (tagRow 4 16 5 6 7 0 2 1 ++ textRow 7 12 2 2))
 
 pub listed : listingText page table ≡
     (110 ∷ 111 ∷ 100 ∷ 101 ∷ 115 ∷ 32 ∷ 51 ∷ 32 ∷ 118 ∷ 101 ∷ 114 ∷ 115 ∷ 105 ∷ 111 ∷ 110 ∷ 32 ∷ 48 ∷ 10 ∷ [])

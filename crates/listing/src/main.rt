@@ -10,13 +10,13 @@ fn list(page: &[u8], table: &mut [u32], out: &mut [u8]) -> Counted
     lines::answer(page, table, read, out)
 }
 
-// A page of 65,537 bytes is too long, whatever follows them. The table has a header of 8 words and 2,047 rows of 8.
-// A listing has at most 137,202 bytes, so it is never refused for lack of room: a first line of 21, `nodes 2047 version 5`;
-// 2,047 lines of 35 without the names, `2046 comment 2045 65535 65536 2046`; and the names, which lie apart in the page.
+// A page of 65,537 bytes is too long, whatever follows them. The table has a header of 8 words and 1,819 rows of 9.
+// A listing has at most 129,222 bytes, so it is never refused for lack of room: a first line of 21, `nodes 1819 version 5`;
+// 1,819 lines of 35 without the names, `1818 comment 1817 65535 65536 1818`; and the names, which lie apart in the page.
 fn main() {
     let mut page = [0u8; 65537];
-    let mut table = [0u32; 16384];
-    let mut out = [0u8; 137202];
+    let mut table = [0u32; 16379];
+    let mut out = [0u8; 129222];
     let n = io::read_full(0, &mut page);
     let r = list(&page[..n], &mut table, &mut out);
     let Counted::Count(k) = r else {

@@ -80,6 +80,6 @@ module _ {white : ℕ → Bool} {p t₁ t hd : List ℕ} {R : Reading} {s : Stat
             let I = innermost (H .rows) l in
             let S = G .fine .nodes (s .inner - 1) (I .below) in
             let tags = rw (I .opens) at (G .fine .tags) in
-            let T = S .tag (tags .0) in
+            let T = S .tag (tags .1) in
             rw (I .row) (T .1, omega (arith, T .2, T .3, S .within, G .within));
       }

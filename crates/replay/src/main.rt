@@ -566,7 +566,7 @@ fn line_buffer() -> [u8; 263696]
     [0; 263696]
 }
 
-// The table has a header of 8 words and 2,047 rows of 8.
+// The table has a header of 8 words, 1,819 rows of 9, and 5 words after them.
 fn main() {
     let mut input = input_buffer();
     let mut page = page_buffer();

@@ -4,7 +4,7 @@ use mathlib.Core.Path.{_≡_, refl}
 use mathlib.Core.List.{List, [], _∷_, _++_}
 use lib.ListN.{replicate}
 use Rattle.rules.specs.Ascii.{bytes}
-use Rattle.rules.specs.Questions.{Example, example, answers, said, range, text, attribute, id, class, query, queryBelow, rows, version, parse, own, foreign, selector}
+use Rattle.rules.specs.Questions.{Example, example, answers, said, tagRow, textRow, range, text, attribute, id, class, query, queryBelow, rows, version, parse, own, foreign, selector}
 use Rattle.rules.specs.declared.Manner.the-variants.{Scan, Closed}
 use Rattle.rules.specs.Scan.{span, agree}
 use Rattle.rules.specs.Lists.{from, only, each}
@@ -24,33 +24,33 @@ use Rattle.rules.specs.Answers.{parseAnswer, parseTable, rangeAnswer, te
 -- two tags with equal ends above word 5, the second below the first, in a table that no reading makes
 abbrev twins : List ℕ
 twins =
-    (2 ∷ 0 ∷ 10 ∷ 8 ∷ 8 ∷ 0 ∷ 0 ∷ 0 ∷ [])
-    ++ (1 ∷ 0 ∷ 10 ∷ 1 ∷ 2 ∷ 9 ∷ 0 ∷ 1 ∷ []) ++ (1 ∷ 0 ∷ 10 ∷ 1 ∷ 2 ∷ 9 ∷ 1 ∷ 1 ∷ [])
+    (2 ∷ 0 ∷ 10 ∷ 8 ∷ 9 ∷ 0 ∷ 0 ∷ 0 ∷ [])
+    ++ tagRow 0 10 1 2 9 0 1 1 ++ tagRow 0 10 1 2 9 1 1 2
 
 abbrev examples : List Example
 examples =
     -- the listing's page: br and p at the root, the text in p
     example (bytes "<br><p>Hello</p>") rows
-    ((1 ∷ 0 ∷ 4 ∷ 1 ∷ 3 ∷ 4 ∷ 0 ∷ 0 ∷ []) ∷ (1 ∷ 4 ∷ 16 ∷ 5 ∷ 6 ∷ 7 ∷ 0 ∷ 2 ∷ []) ∷ (2 ∷ 7 ∷ 12 ∷ 0 ∷ 0 ∷ 0 ∷ 2 ∷ 2 ∷ []) ∷ [])
+    (tagRow 0 4 1 3 4 0 0 3 ∷ tagRow 4 16 5 6 7 0 2 1 ∷ textRow 7 12 2 2 ∷ [])
     ∷ example (bytes "<br><p>Hello</p>") (own (range 0)) ((0 ∷ 0 ∷ 0 ∷ 0 ∷ []) ∷ [])
     ∷ example (bytes "<br><p>Hello</p>") (own (range 1)) ((0 ∷ 1 ∷ 2 ∷ 2 ∷ []) ∷ [])
     ∷ example (bytes "<br><p>Hello</p>") (own (range 3)) ((4 ∷ 0 ∷ 0 ∷ 0 ∷ []) ∷ [])
     -- `a` stays open; cut after 6 bytes it closes
-    ∷ example (bytes "<a></ab>") rows ((1 ∷ 0 ∷ 3 ∷ 1 ∷ 2 ∷ 3 ∷ 0 ∷ 0 ∷ []) ∷ [])
-    ∷ example (bytes "<a></a") rows ((1 ∷ 0 ∷ 6 ∷ 1 ∷ 2 ∷ 3 ∷ 0 ∷ 0 ∷ []) ∷ [])
+    ∷ example (bytes "<a></ab>") rows (tagRow 0 3 1 2 3 0 0 0 ∷ [])
+    ∷ example (bytes "<a></a") rows (tagRow 0 6 1 2 3 0 0 2 ∷ [])
     -- a line feed is white, a tab is not
-    ∷ example (bytes "<\np>") rows ((1 ∷ 0 ∷ 4 ∷ 2 ∷ 3 ∷ 4 ∷ 0 ∷ 0 ∷ []) ∷ [])
-    ∷ example (bytes "<\tp>") rows ((1 ∷ 0 ∷ 4 ∷ 1 ∷ 1 ∷ 4 ∷ 0 ∷ 0 ∷ []) ∷ [])
+    ∷ example (bytes "<\np>") rows (tagRow 0 4 2 3 4 0 0 0 ∷ [])
+    ∷ example (bytes "<\tp>") rows (tagRow 0 4 1 1 4 0 0 0 ∷ [])
     -- version 5, and a text 16 to 23
     ∷ example (bytes "<!doctype html public>y") version ((5 ∷ []) ∷ [])
-    ∷ example (bytes "<!doctype html public>y") rows ((2 ∷ 16 ∷ 23 ∷ 0 ∷ 0 ∷ 0 ∷ 0 ∷ 0 ∷ []) ∷ [])
+    ∷ example (bytes "<!doctype html public>y") rows (textRow 16 23 0 0 ∷ [])
     -- an accepted reading leaves the words after its rows as they were
-    ∷ example (bytes "a") (parse 17)
-    ((0 ∷ 1 ∷ []) ∷ (1 ∷ 0 ∷ 1 ∷ 8 ∷ 8 ∷ 0 ∷ 0 ∷ 0 ∷ 2 ∷ 0 ∷ 1 ∷ 0 ∷ 0 ∷ 0 ∷ 0 ∷ 0 ∷ 0 ∷ []) ∷ [])
+    ∷ example (bytes "a") (parse 18)
+    ((0 ∷ 1 ∷ []) ∷ ((1 ∷ 0 ∷ 1 ∷ 8 ∷ 9 ∷ 0 ∷ 0 ∷ 0 ∷ []) ++ textRow 0 1 0 0 ++ (0 ∷ [])) ∷ [])
     ∷ example (bytes "") (parse 7) ((2 ∷ 0 ∷ []) ∷ (0 ∷ 0 ∷ 0 ∷ 0 ∷ 0 ∷ 0 ∷ 0 ∷ []) ∷ [])
     -- a page of 65,536 bytes is read, one of 65,537 refused as 1
-    ∷ example (replicate 65536 97) (parse 16)
-    ((0 ∷ 1 ∷ []) ∷ (1 ∷ 0 ∷ 65536 ∷ 8 ∷ 8 ∷ 0 ∷ 0 ∷ 0 ∷ 2 ∷ 0 ∷ 65536 ∷ 0 ∷ 0 ∷ 0 ∷ 0 ∷ 0 ∷ []) ∷ [])
+    ∷ example (replicate 65536 97) (parse 17)
+    ((0 ∷ 1 ∷ []) ∷ ((1 ∷ 0 ∷ 65536 ∷ 8 ∷ 9 ∷ 0 ∷ 0 ∷ 0 ∷ []) ++ textRow 0 65536 0 0) ∷ [])
     ∷ example (replicate 65537 97) (parse 1) ((1 ∷ 0 ∷ []) ∷ (0 ∷ []) ∷ [])
     -- scan 0, closed 1; at equal ends the higher handle closes first
     ∷ example (bytes "<p id=a></p><q id=a></q>") (own (id Scan (bytes "a"))) ((0 ∷ 1 ∷ 0 ∷ []) ∷ [])

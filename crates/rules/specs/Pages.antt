@@ -1,8 +1,9 @@
--- The checked pages of document 01 that are marked P, and the refusals' examples on the pages `a` and `<p>`: one table, one theorem.
+-- The checked pages of document 01 that are marked P, the refusals' examples on the pages `a` and `<p>`, and pages whose tags end in
+-- each of the four ways: one table, one theorem.
 use mathlib.Core.Path.{_≡_, refl}
 use mathlib.Core.List.{List, [], _∷_}
 use Rattle.rules.specs.Ascii.{bytes}
-use Rattle.rules.specs.Questions.{Example, example, answers, said, range, attribute, id, query, rows, parse, own, foreign, selector}
+use Rattle.rules.specs.Questions.{Example, example, answers, said, tagRow, textRow, commentRow, range, attribute, id, query, rows, parse, own, foreign, selector}
 use Rattle.rules.specs.declared.Manner.the-variants.{Scan, Closed}
 use Rattle.rules.specs.Scan.{span, agree}
 use Rattle.rules.specs.Lists.{from, only, each}
@@ -23,14 +24,14 @@ abbrev pages : List Example
 pages =
     -- no nodes; one text; only the text `a `
     example (bytes "") rows []
-    ∷ example (bytes "a") rows ((2 ∷ 0 ∷ 1 ∷ 0 ∷ 0 ∷ 0 ∷ 0 ∷ 0 ∷ []) ∷ [])
-    ∷ example (bytes "a < b") rows ((2 ∷ 0 ∷ 2 ∷ 0 ∷ 0 ∷ 0 ∷ 0 ∷ 0 ∷ []) ∷ [])
+    ∷ example (bytes "a") rows (textRow 0 1 0 0 ∷ [])
+    ∷ example (bytes "a < b") rows (textRow 0 2 0 0 ∷ [])
     -- the tag `br/`, open, holding `x`; the same nesting
-    ∷ example (bytes "<br/>x") rows ((1 ∷ 0 ∷ 5 ∷ 1 ∷ 4 ∷ 5 ∷ 0 ∷ 1 ∷ []) ∷ (2 ∷ 5 ∷ 6 ∷ 0 ∷ 0 ∷ 0 ∷ 1 ∷ 1 ∷ []) ∷ [])
-    ∷ example (bytes "<BR>x") rows ((1 ∷ 0 ∷ 4 ∷ 1 ∷ 3 ∷ 4 ∷ 0 ∷ 1 ∷ []) ∷ (2 ∷ 4 ∷ 5 ∷ 0 ∷ 0 ∷ 0 ∷ 1 ∷ 1 ∷ []) ∷ [])
+    ∷ example (bytes "<br/>x") rows (tagRow 0 5 1 4 5 0 1 0 ∷ textRow 5 6 1 1 ∷ [])
+    ∷ example (bytes "<BR>x") rows (tagRow 0 4 1 3 4 0 1 0 ∷ textRow 4 5 1 1 ∷ [])
     -- an empty comment; a comment 0 to 8
-    ∷ example (bytes "<!---->") rows ((3 ∷ 0 ∷ 0 ∷ 0 ∷ 0 ∷ 0 ∷ 0 ∷ 0 ∷ []) ∷ [])
-    ∷ example (bytes "<!--a-->") rows ((3 ∷ 0 ∷ 8 ∷ 0 ∷ 0 ∷ 0 ∷ 0 ∷ 0 ∷ []) ∷ [])
+    ∷ example (bytes "<!---->") rows (commentRow 0 0 0 0 ∷ [])
+    ∷ example (bytes "<!--a-->") rows (commentRow 0 8 0 0 ∷ [])
     -- attributes `b` and `d`, without a value
     ∷ example (bytes "<i b cd>") (own (attribute 0 (bytes "b"))) ((0 ∷ 1 ∷ 0 ∷ 0 ∷ []) ∷ [] ∷ [])
     ∷ example (bytes "<i b cd>") (own (attribute 0 (bytes "d"))) ((0 ∷ 1 ∷ 0 ∷ 0 ∷ []) ∷ [] ∷ [])
@@ -40,7 +41,13 @@ pages =
     ∷ example (bytes "<p id=a>") (own (id Closed (bytes "a"))) ((0 ∷ 0 ∷ 0 ∷ []) ∷ [])
     -- `x` lies in `b`
     ∷ example (bytes "<a><b></a>x") rows
-    ((1 ∷ 0 ∷ 3 ∷ 1 ∷ 2 ∷ 3 ∷ 0 ∷ 2 ∷ []) ∷ (1 ∷ 3 ∷ 6 ∷ 4 ∷ 5 ∷ 6 ∷ 1 ∷ 2 ∷ []) ∷ (2 ∷ 10 ∷ 11 ∷ 0 ∷ 0 ∷ 0 ∷ 2 ∷ 2 ∷ []) ∷ [])
+    (tagRow 0 3 1 2 3 0 2 0 ∷ tagRow 3 6 4 5 6 1 2 0 ∷ textRow 10 11 2 2 ∷ [])
+    -- how a tag ended: open at the end of the page; closed; closed by a closing tag that is cut short; never opened, as void and by `/`
+    ∷ example (bytes "<p>") rows (tagRow 0 3 1 2 3 0 0 0 ∷ [])
+    ∷ example (bytes "<p></p>") rows (tagRow 0 7 1 2 3 0 0 1 ∷ [])
+    ∷ example (bytes "<p></p") rows (tagRow 0 6 1 2 3 0 0 2 ∷ [])
+    ∷ example (bytes "<br>") rows (tagRow 0 4 1 3 4 0 0 3 ∷ [])
+    ∷ example (bytes "<p />") rows (tagRow 0 5 1 2 5 0 0 3 ∷ [])
     -- one tag name; refused as 6
     ∷ example (bytes "a+b") (selector 7) ((0 ∷ 1 ∷ []) ∷ (1 ∷ 0 ∷ 3 ∷ 0 ∷ 0 ∷ 0 ∷ 0 ∷ []) ∷ [])
     ∷ example (bytes "[k=\"x y\"]") (selector 2) ((6 ∷ 0 ∷ []) ∷ (0 ∷ 0 ∷ []) ∷ [])

@@ -58,6 +58,19 @@ asked p (own q) = answerOf p (tableOf p) q
 asked p (foreign ws q) = answerOf p ws q
 asked s (selector n) = countedNumbers (selectorAnswer s n) ∷ selectorBuffer s (zeros n) ∷ []
 
+-- a row's words, as a table of examples writes them: a tag's; and a text's or a comment's, of which the last number is the own handle
+abbrev pub tagRow : ℕ → ℕ → ℕ → ℕ → ℕ → ℕ → ℕ → ℕ → List ℕ
+tagRow start end name stop opened parent last ended = 1 ∷ start ∷ end ∷ name ∷ stop ∷ opened ∷ parent ∷ last ∷ ended ∷ []
+
+abbrev otherRow : ℕ → ℕ → ℕ → ℕ → ℕ → List ℕ
+otherRow kind start end parent handle = kind ∷ start ∷ end ∷ 0 ∷ 0 ∷ 0 ∷ parent ∷ handle ∷ 0 ∷ []
+
+abbrev pub textRow : ℕ → ℕ → ℕ → ℕ → List ℕ
+textRow = otherRow 2
+
+abbrev pub commentRow : ℕ → ℕ → ℕ → ℕ → List ℕ
+commentRow = otherRow 3
+
 -- an example: the bytes, a question, and what document 01 says
 pub record Example : Type 0 where
   pub given : List ℕ

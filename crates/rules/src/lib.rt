@@ -2,7 +2,9 @@
 
 // ---- pages
 
-// A row of the table: `name` and `stop` are a tag's name start and name end, `opened` the place after its opening `>`.
+// A row of the table: `name` and `stop` are a tag's name start and name end, `opened` the place after its opening `>`. How a tag
+// ended: 0 it was open at the end of the page, 1 a closing tag with its `>` closed it, 2 one that the page's end cut short did,
+// 3 it was never opened, since its name is void or it ended in `/>`. Of texts and comments it is 0.
 pub struct Node {
     pub kind: u32,
     pub start: u32,
@@ -12,6 +14,7 @@ pub struct Node {
     pub opened: u32,
     pub parent: u32,
     pub last: u32,
+    pub ended: u32,
 }
 
 // The byte at a place, or the end of the bytes.

@@ -6,14 +6,15 @@ use Prim.Native.Nat.{ℕ, _+_, _-_, _≤_}
 use lib.Dec.{leb, ltb, eqb}
 use Rattle.rules.specs.Scan.{pick}
 use Rattle.rules.specs.Table.{nodeAt}
-use Rattle.rules.specs.Sound.{tagged, placesSound, lastAt, reaching, parentAt, rowSound}
+use Rattle.rules.specs.Sound.{tagged, placesSound, endedSound, lastAt, reaching, parentAt, rowSound}
 use Rattle.rules.specs.declared.Node.{Node}
 use Rattle.sound.specs.declared.Next.{Next}
 use Rattle.sound.specs.declared.Next.the-variants.{From, Unsound}
 
--- what the node n at row h of count says of itself: its kind and places; own handle ≤ last < count, and another node than a tag is its own last
+-- what the node n at row h of count says of itself: its kind and places; how it ended; own handle ≤ last < count, and another node than
+-- a tag is its own last
 abbrev pub ownSound : ℕ → ℕ → ℕ → Node → Bool
-ownSound len count h n = placesSound len n && (leb h (n .last) && ltb (n .last) count && (tagged n || eqb (n .last) h))
+ownSound len count h n = placesSound len n && endedSound h n && (leb h (n .last) && ltb (n .last) count && (tagged n || eqb (n .last) h))
 
 -- what it says of its parent, where p is that one's handle plus 1, or 0
 abbrev pub underSound : List ℕ → ℕ → Node → Bool

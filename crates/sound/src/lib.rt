@@ -1,19 +1,23 @@
 // Whether a table of arbitrary words is sound for a page of `len` bytes, in time linear in the rows.
 use rules::Node;
 ghost use mathlib.Core.Path.{_≡_};
-ghost use Prim.Native.Nat.{ℕ, _≤_, _<_};
+ghost use mathlib.Core.Bool.{_&&_};
+ghost use Prim.Native.Nat.{ℕ, _+_, _≤_, _<_};
 ghost use lib.ListN.{length};
-ghost use Rattle.rules.specs.Table.{headWords, rowAt, nodeAt};
-ghost use Rattle.rules.specs.Sound.{placesSound, headSound, parentAt, rowSound, sound, all};
+ghost use Rattle.rules.specs.Table.{headWords, rowWords, rowAt, nodeAt};
+ghost use Rattle.rules.specs.Sound.{placesSound, endedSound, headSound, parentAt, rowSound, sound, all};
 ghost use Rattle.sound.specs.Row.{ownSound, underSound, Starts, nextOf};
 
 // ---- a row by itself
 
+// Each test reads the row anew, and so just the words that it looks at: with a whole row in hand they do not all fit the registers.
+
 // The places of a tag, in order: so its start is not after its end.
-fn tag_places(n: Node, len: usize) -> bool
-    requires { ⌜ n .kind ≡ 1 ⌝ }
-    ensures { λ r. ⌜ r ≡ placesSound len n ⌝ }
+fn tag_places(table: &[u32], h: usize, len: usize) -> bool
+    requires { ⌜ (rowAt h + rowWords ≤ length (now table)) × (nodeAt (now table) h .kind ≡ 1) ⌝ }
+    ensures { λ r. ⌜ r ≡ placesSound len (nodeAt (now (table .entry)) h) ⌝ }
 {
+    let n = table::row_at(table, h);
     let end = n.end as usize;
     (n.start < n.name)
         & (n.name <= n.stop)
@@ -22,11 +26,34 @@ fn tag_places(n: Node, len: usize) -> bool
         & (end <= len)
 }
 
-// Kind and places of another node.
-fn other_places(n: Node, len: usize) -> bool
-    requires { ⌜ (n .kind ≡ 1 → ⊥) ⌝ }
-    ensures { λ r. ⌜ r ≡ placesSound len n ⌝ }
+// How a tag ended: with an end above word 5 a closing tag closed it; else it was left open, or was never opened and then holds no other
+// row. What most tags have is tried first: 1 where the end is above, and else 0.
+fn tag_ended(table: &[u32], h: usize) -> bool
+    requires { ⌜ rowAt h + rowWords ≤ length (now table) ⌝ }
+    requires { ⌜ (nodeAt (now table) h .kind ≡ 1) × (nodeAt (now table) h .opened ≤ nodeAt (now table) h .end) ⌝ }
+    ensures { λ r. ⌜ r ≡ endedSound h (nodeAt (now (table .entry)) h) ⌝ }
 {
+    let n = table::row_at(table, h);
+    let above = (n.opened < n.end) as u32;
+    if n.ended == above {
+        return true;
+    }
+    if above == 1 {
+        return n.ended == 2;
+    }
+    let last = n.last as usize;
+    (n.ended == 3) & (last == h)
+}
+
+// Kind, places and ending of another node, which is its own last.
+fn other_sound(table: &[u32], h: usize, len: usize) -> bool
+    requires { ⌜ rowAt h + rowWords ≤ length (now table) ⌝ }
+    requires { ⌜ (nodeAt (now table) h .kind ≡ 1 → ⊥) × (nodeAt (now table) h .last ≡ h) ⌝ }
+    ensures { λ r. ⌜
+        r ≡ (placesSound len (nodeAt (now (table .entry)) h) && endedSound h (nodeAt (now (table .entry)) h))
+        ⌝ }
+{
+    let n = table::row_at(table, h);
     let end = n.end as usize;
     (1 <= n.kind)
         & (n.kind <= 3)
@@ -35,13 +62,15 @@ fn other_places(n: Node, len: usize) -> bool
         & (n.name == 0)
         & (n.stop == 0)
         & (n.opened == 0)
+        & (n.ended == 0)
 }
 
 // What row h says of itself. The last of another node than a tag is h, which is below the count.
-fn own_sound(n: Node, len: usize, count: usize, h: usize) -> bool
-    requires { ⌜ h < count ⌝ }
-    ensures { λ r. ⌜ r ≡ ownSound len count h n ⌝ }
+fn own_sound(table: &[u32], len: usize, count: usize, h: usize) -> bool
+    requires { ⌜ (h < count) × (rowAt h + rowWords ≤ length (now table)) ⌝ }
+    ensures { λ r. ⌜ r ≡ ownSound len count h (nodeAt (now (table .entry)) h) ⌝ }
 {
+    let n = table::row_at(table, h);
     let last = n.last as usize;
     if n.kind == 1 {
         if last < h {
@@ -50,12 +79,15 @@ fn own_sound(n: Node, len: usize, count: usize, h: usize) -> bool
         if count <= last {
             return false;
         }
-        return tag_places(n, len);
+        if !tag_places(table, h, len) {
+            return false;
+        }
+        return tag_ended(table, h);
     }
     if last != h {
         return false;
     }
-    other_places(n, len)
+    other_sound(table, h, len)
 }
 
 // ---- a row and its parent
@@ -100,7 +132,7 @@ fn row_sound(table: &[u32], len: usize, count: usize, h: usize, from: usize) -> 
     ensures { λ r. ⌜ r ≡ nextOf len (now (table .entry)) count h ⌝ }
 {
     let n = table::row_at(table, h);
-    if !own_sound(n, len, count, h) {
+    if !own_sound(table, len, count, h) {
         return Next::Unsound;
     }
     if !under(table, n, h, from) {

@@ -11,7 +11,7 @@ ghost use Rattle.rules.specs.Table.{headWords, rowWords, wordsOf, rowAt, putRow
 // The words of the header and of a row.
 pub const HEAD: usize = 8;
 
-pub const ROW: usize = 8;
+pub const ROW: usize = 9;
 
 // Writes a node's words into a row.
 fn write_row(row: &mut [u32], n: Node)
@@ -26,6 +26,7 @@ fn write_row(row: &mut [u32], n: Node)
     row[5] = n.opened;
     row[6] = n.parent;
     row[7] = n.last;
+    row[8] = n.ended;
 }
 
 // Writes a node into row h.
@@ -52,6 +53,7 @@ fn read_row(row: &[u32]) -> Node
         opened: row[5],
         parent: row[6],
         last: row[7],
+        ended: row[8],
     }
 }
 
@@ -65,23 +67,24 @@ pub fn row_at(table: &[u32], h: usize) -> Node
     read_row(&table[a..e])
 }
 
-// Sets a row's end and last handle, and leaves its other words.
-fn close_in(row: &mut [u32], end: u32, last: u32)
+// Sets a row's end, its last handle and how it ended, and leaves its other words.
+fn close_in(row: &mut [u32], end: u32, last: u32, ended: u32)
     requires { ⌜ length (now row) ≡ rowWords ⌝ }
-    ensures { λ _. ⌜ now (row .exit) ≡ wordsOf (closed (nodeOf (now (row .entry))) end last) ⌝ }
+    ensures { λ _. ⌜ now (row .exit) ≡ wordsOf (closed (nodeOf (now (row .entry))) end last ended) ⌝ }
 {
     row[2] = end;
     row[7] = last;
+    row[8] = ended;
 }
 
-// Sets the end and the last handle of row h.
-pub fn close_row(table: &mut [u32], h: usize, end: u32, last: u32)
+// Sets the end and the last handle of row h, and how it ended.
+pub fn close_row(table: &mut [u32], h: usize, end: u32, last: u32, ended: u32)
     requires { ⌜ rowAt h + rowWords ≤ length (now table) ⌝ }
-    ensures { λ _. ⌜ now (table .exit) ≡ putRow (now (table .entry)) h (closed (nodeAt (now (table .entry)) h) end last) ⌝ }
+    ensures { λ _. ⌜ now (table .exit) ≡ putRow (now (table .entry)) h (closed (nodeAt (now (table .entry)) h) end last ended) ⌝ }
 {
     let a = HEAD + ROW * h;
     let e = a + ROW;
-    close_in(&mut table[a..e], end, last);
+    close_in(&mut table[a..e], end, last, ended);
 }
 
 // Writes the header's words: node count, version, page length, where the rows start, their width, three zeros.

@@ -28,14 +28,14 @@ chain-snoc ns x (h ∷ hs) c = (
   chain-snoc ns x hs (c .3),
 )
 
-chain-set : (ns : List Node) (k e l : ℕ) (hs : List ℕ) → Chained ns hs → Chained (set ns k (closed (node ns k) e l)) hs
-chain-set ns k e l [] c = tt
-chain-set ns k e l (h ∷ hs) c =
-    (omega (arith, c .0, length-set ns k (closed (node ns k) e l)), go (ℕ-discrete h k) ∙ c .1, c .2, chain-set ns k e l hs (c .3))
+chain-set : (ns : List Node) (k e l x : ℕ) (hs : List ℕ) → Chained ns hs → Chained (set ns k (closed (node ns k) e l x)) hs
+chain-set ns k e l x [] c = tt
+chain-set ns k e l x (h ∷ hs) c =
+    (omega (arith, c .0, length-set ns k (closed (node ns k) e l x)), go (ℕ-discrete h k) ∙ c .1, c .2, chain-set ns k e l x hs (c .3))
   where
-    go : Dec (h ≡ k) → node (set ns k (closed (node ns k) e l)) h .parent ≡ node ns h .parent
-    go (yes q) = rw (q, getD-set-same ns k (closed (node ns k) e l) noNode (rw (← q) (c .0)))
-    go (no n) = rw (getD-set-other ns k h (closed (node ns k) e l) noNode n)
+    go : Dec (h ≡ k) → node (set ns k (closed (node ns k) e l x)) h .parent ≡ node ns h .parent
+    go (yes q) = rw (q, getD-set-same ns k (closed (node ns k) e l x) noNode (rw (← q) (c .0)))
+    go (no n) = rw (getD-set-other ns k h (closed (node ns k) e l x) noNode n)
 
 -- ---- the innermost open tag, k: its row, and the open tags around it
 pub record Innermost (t₁ : List ℕ) (ns : List Node) (hs : List ℕ) (k : ℕ) : Type 0 where
@@ -84,11 +84,11 @@ module _ {t₁ t hd : List ℕ} {ns : List Node} {hs : List ℕ} {inner : ℕ} (
       }
 
   -- the innermost open tag closed; m is its row
-  pub rows-close : {k : ℕ} (end last : ℕ) {m : Node} {t₂ : List ℕ} (I : Innermost t₁ ns hs k) → m ≡ nodeAt t₁ k
-      → t₂ ≡ putRow t₁ k (closed (nodeAt t₁ k) end last) → Rows t₂ t hd (set ns k (closed (node ns k) end last)) (I .around) (m .parent)
-  rows-close {k} end last I e w =
+  pub rows-close : {k : ℕ} (end last x : ℕ) {m : Node} {t₂ : List ℕ} (I : Innermost t₁ ns hs k) → m ≡ nodeAt t₁ k
+      → t₂ ≡ putRow t₁ k (closed (nodeAt t₁ k) end last x) → Rows t₂ t hd (set ns k (closed (node ns k) end last x)) (I .around) (m .parent)
+  rows-close {k} end last x I e w =
       record {
-        filled = filled-same (S .filled) k (closed (node ns k) end last) (w ∙ rw (I .row)) (I .below);
-        chained = chain-set ns k end last (I .around) (I .chained);
+        filled = filled-same (S .filled) k (closed (node ns k) end last x) (w ∙ rw (I .row)) (I .below);
+        chained = chain-set ns k end last x (I .around) (I .chained);
         innermost = ap (λ (n : Node). n .parent) (e ∙ I .row) ∙ I .parent;
       }

@@ -4,7 +4,7 @@ use mathlib.Core.List.{List}
 use Prim.Native.Nat.{ℕ, _+_, _-_, _≤_, _<_}
 use native.Mathlib.Omega.{arith}
 use lib.ListN.{length, set}
-use Rattle.rules.specs.Reader.{node, withLast, closed}
+use Rattle.rules.specs.Reader.{node, withLast, closed, settled}
 use Rattle.rules.specs.Table.{rowAt, rowWords, nodeAt, putRow, Filled}
 use Rattle.rules.proofs.Table.{filled-size}
 use Rattle.rules.specs.declared.Node.{Node}
@@ -34,15 +34,16 @@ module _ {last inner : ℕ} {t₁ t hd : List ℕ} {ns : List Node} {hs : List �
     left-lower = rw (tag .row, tag .parent) (omega (arith, tag .lower))
 
     -- one more of them is settled
-    pub left-more : {m : Node} {t₂ : List ℕ} → m ≡ nodeAt t₁ (inner - 1) → t₂ ≡ putRow t₁ (inner - 1) (closed (nodeAt t₁ (inner - 1)) (m .end) last)
+    pub left-more : {m : Node} {t₂ : List ℕ} → m ≡ nodeAt t₁ (inner - 1)
+        → t₂ ≡ putRow t₁ (inner - 1) (closed (nodeAt t₁ (inner - 1)) (m .end) last (m .ended))
         → Left last t₂ t hd (m .parent) ns hs
     unfolding withLast
     left-more em w =
         let k : ℕ = inner - 1 in
         let n : Node = node (L .ms) k in
         record {
-          ms = set (L .ms) k (closed n (n .end) last);
+          ms = set (L .ms) k (settled n last);
           ks = tag .around;
-          rows = rows-close (L .rows) (n .end) last tag em (rw (em ∙ tag .row) at w);
+          rows = rows-close (L .rows) (n .end) last (n .ended) tag em (rw (em ∙ tag .row) at w);
           rest = L .rest ∙ ap (λ (hs : List ℕ). withLast last hs (L .ms)) (tag .opens);
         }

@@ -8,7 +8,7 @@ use lib.ListN.{length, length-append, length-set}
 use lib.Seq.{getD-append-seam}
 use Rattle.rules.specs.Scan.{pick, part, same}
 use Rattle.rules.specs.Names.{isVoid}
-use Rattle.rules.specs.Reader.{Reading, noNode, parentOf, moved, pushed, leaf, tagNode, closed, closeInto, put}
+use Rattle.rules.specs.Reader.{Reading, noNode, parentOf, moved, pushed, leaf, tagNode, closed, endedBy, closeInto, put}
 use Rattle.rules.specs.Table.{rowAt, rowWords, nodeAt, putRow}
 use Rattle.rules.specs.declared.Item.the-variants.{Close, Doctype, Tag}
 use Rattle.rules.specs.declared.Node.{Node}
@@ -43,11 +43,11 @@ step-as f S =
 
 abbrev pub leafRow : State → ℕ → ℕ → ℕ → Node
 leafRow s kind start end =
-    record { kind = kind; start = start; end = end; name = 0; stop = 0; opened = 0; parent = s .inner; last = s .count }
+    record { kind = kind; start = start; end = end; name = 0; stop = 0; opened = 0; parent = s .inner; last = s .count; ended = 0 }
 
-abbrev pub tagRow : State → ℕ → ℕ → ℕ → Node
-tagRow s a e n =
-    record { kind = 1; start = s .at; end = n; name = a; stop = e; opened = n; parent = s .inner; last = s .count }
+abbrev pub tagRow : State → ℕ → ℕ → ℕ → Bool → Node
+tagRow s a e n shut =
+    record { kind = 1; start = s .at; end = n; name = a; stop = e; opened = n; parent = s .inner; last = s .count; ended = pick shut 3 0 }
 
 -- a reading with the node x more, and the open tags hs
 abbrev grown : Reading → Node → List ℕ → ℕ → Reading
@@ -78,15 +78,15 @@ module _ {t₁ t hd : List ℕ} {R : Reading} {s : State} (H : Held t₁ t hd R 
       let x : Node = leaf R kind start end in
       held-next x (R .opens) (rw (← H .rows .innermost, ← H .count) W) (still x) (H .rows .innermost)
 
-  -- x says whether the name is void, and shut that the tag is not opened
-  pub held-tag : (p : List ℕ) {a e n : ℕ} (slash : Bool) {x shut : Bool} {t₂ : List ℕ} → x ≡ isVoid (part p a e) → (slash || x) ≡ shut
-      → Written t₁ (s .count) (tagRow s a e n) t₂
+  -- shut says that the tag is never opened
+  pub held-tag : (p : List ℕ) {a e n : ℕ} (slash : Bool) {shut : Bool} {t₂ : List ℕ} → (slash || isVoid (part p a e)) ≡ shut
+      → Written t₁ (s .count) (tagRow s a e n shut) t₂
       → Held t₂ t hd (put isVoid p R (Tag a e n slash)) (addedTo s n (pick shut (s .inner) (s .count + 1)) .state)
   unfolding put
-  held-tag p {a} {e} {n} slash {shut = shut} {t₂ = t₂} ex b W = rw (← ex, b) (go shut)
+  held-tag p {a} {e} {n} slash {shut = shut} {t₂ = t₂} b W = rw b (go shut)
     where
       new : Node
-      new = tagNode R a e n
+      new = tagNode R a e n shut
 
       row : Written t₁ (s .count) new t₂
       row = rw (← H .at, ← H .rows .innermost, ← H .count) W
@@ -126,7 +126,8 @@ module _ {t₁ t hd : List ℕ} {R : Reading} {s : State} (H : Held t₁ t hd R 
       unfolding put closeInto
       held-other y = let tag = innermost (H .rows) some in rw (tag .opens, ← tag .row, ← em, ← ex, y) (rw (tag .opens) at (held-moved n))
 
-      pub held-close : {t₂ : List ℕ} → x ≡ true → t₂ ≡ putRow t₁ (s .inner - 1) (closed (nodeAt t₁ (s .inner - 1)) n (s .count - 1))
+      pub held-close : {t₂ : List ℕ} → x ≡ true
+          → t₂ ≡ putRow t₁ (s .inner - 1) (closed (nodeAt t₁ (s .inner - 1)) n (s .count - 1) (endedBy e n))
           → Held t₂ t hd (put isVoid p R (Close a e n)) (record { at = n; count = s .count; inner = m .parent; version = s .version })
       unfolding put closeInto
       held-close y w =
@@ -134,7 +135,7 @@ module _ {t₁ t hd : List ℕ} {R : Reading} {s : State} (H : Held t₁ t hd R 
           let l : s .count - 1 ≡ pred (length (R .nodes)) = omega (arith, H .count) in
           rw (tag .opens, ← tag .row, ← em, ← ex, y, em, tag .row, ← l)
           (record {
-            rows = rows-close (H .rows) n (s .count - 1) tag (sym (tag .row)) w;
+            rows = rows-close (H .rows) n (s .count - 1) (endedBy e n) tag (sym (tag .row)) w;
             at = refl;
             count = simp length-set (H .count);
             version = H .version;

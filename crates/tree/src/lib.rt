@@ -7,9 +7,9 @@ use rules::State;
 ghost use mathlib.Core.Path.{_≡_};
 ghost use Prim.Native.Nat.{_≤_, _<_, pred};
 ghost use lib.ListN.{length};
-ghost use Rattle.rules.specs.Scan.{part, same};
+ghost use Rattle.rules.specs.Scan.{pick, part, same};
 ghost use Rattle.rules.specs.Names.{isVoid};
-ghost use Rattle.rules.specs.Reader.{Reading, pushed, leaf, put as putItem};
+ghost use Rattle.rules.specs.Reader.{Reading, pushed, leaf, endedBy, put as putItem};
 ghost use Rattle.rules.specs.Refusals.{pageLimit};
 ghost use Rattle.rules.specs.declared.Item.the-variants.{Tag, Close};
 ghost use Rattle.tree.specs.Held.{Step, Room, Inner, Within, Fits, Registered, movedTo, addedTo, versionTo, Open, Settled};
@@ -20,6 +20,16 @@ const KIND_TAG: u32 = 1;
 const KIND_TEXT: u32 = 2;
 
 const KIND_COMMENT: u32 = 3;
+
+// Word 8 of a row: a tag that no closing tag has closed, and every text and comment; a tag closed by a closing tag with its `>`, or by one
+// that the page's end cut short; a tag that is never opened.
+const ENDED_OPEN: u32 = 0;
+
+const ENDED_CLOSED: u32 = 1;
+
+const ENDED_CUT_SHORT: u32 = 2;
+
+const ENDED_NEVER_OPENED: u32 = 3;
 
 // The version of a page whose document type names html.
 const HTML5: u32 = 5;
@@ -101,6 +111,7 @@ fn put_leaf(
         opened: 0,
         parent: inner,
         last: h as u32,
+        ended: ENDED_OPEN,
     };
     if register_tag(table, h, n) {
         return added(s, next, inner);
@@ -117,6 +128,26 @@ fn is_void_name(page: &[u8], a: usize, e: usize) -> bool
     ensures { λ r. ⌜ r ≡ isVoid (part (now (page .entry)) a e) ⌝ }
 {
     constants::is_void(&page[a..e])
+}
+
+// How a new tag has ended so far, where `shut` says that it is not opened.
+fn ended_new(shut: bool) -> u32
+    ensures { λ r. ⌜ r ≡ pick shut 3 0 ⌝ }
+{
+    if shut {
+        return ENDED_NEVER_OPENED;
+    }
+    ENDED_OPEN
+}
+
+// How a closing tag ends the tag that it closes: its name ends at e, and where its `>` was passed the place after it is later.
+fn ended_by(e: usize, next: usize) -> u32
+    ensures { λ r. ⌜ r ≡ endedBy e next ⌝ }
+{
+    if e < next {
+        return ENDED_CLOSED;
+    }
+    ENDED_CUT_SHORT
 }
 
 // A tag in the innermost open tag: its name from a to e, the place after its `>`, and whether it ended in `/>`.
@@ -137,6 +168,8 @@ fn put_tag(
 {
     let h = s.count;
     let inner = s.inner;
+    let shut = slash | is_void_name(page, a, e);
+    let ended = ended_new(shut);
     let n = Node {
         kind: KIND_TAG,
         start: s.at as u32,
@@ -146,9 +179,10 @@ fn put_tag(
         opened: next as u32,
         parent: inner,
         last: h as u32,
+        ended,
     };
     if register_tag(table, h, n) {
-        if slash | is_void_name(page, a, e) {
+        if shut {
             return added(s, next, inner);
         }
         return added(s, next, h as u32 + 1);
@@ -189,7 +223,8 @@ fn close_tag(table: &mut [u32], page: &[u8], s: State, a: usize, e: usize, next:
     let n = table::row_at(table, k);
     if has_name(page, n, a, e) {
         let last = s.count - 1;
-        table::close_row(table, k, next as u32, last as u32);
+        let ended = ended_by(e, next);
+        table::close_row(table, k, next as u32, last as u32, ended);
         let mut state = s;
         state.at = next;
         state.inner = n.parent;
@@ -245,7 +280,7 @@ pub fn settle(table: &mut [u32], inner: u32, last: u32)
     while 0 < p {
         let k = p as usize - 1;
         let n = table::row_at(table, k);
-        table::close_row(table, k, n.end, last);
+        table::close_row(table, k, n.end, last, n.ended);
         p = n.parent;
     }
 }

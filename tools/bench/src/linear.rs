@@ -3,6 +3,7 @@
 use crate::ours::{Names, Reader, CLOSED, SCAN};
 use crate::pages::{self, LIMIT};
 use crate::timing::{best, micros};
+use tl_rattle::{HEADER_WORDS, ROW_WORDS};
 
 /// A name, and the page of so many bytes.
 type Heavy = (&'static str, fn(usize) -> String);
@@ -81,12 +82,18 @@ fn calls(whole: &mut Reader, half: &mut Reader) {
     line("four attributes of all tags", ask, whole, half);
 }
 
+/// The header of a table with so many rows.
+fn header(rows: u32, len: usize) -> Vec<u32> {
+    let [first, width] = [HEADER_WORDS as u32, ROW_WORDS as u32];
+    vec![rows, 0, len as u32, first, width, 0, 0, 0]
+}
+
 /// A sound table that no reading made: one tag over `n` texts of a byte.
 fn texts_below_one_tag(len: usize, n: usize) -> Vec<u32> {
-    let mut words = vec![n as u32 + 1, 0, len as u32, 8, 8, 0, 0, 0];
-    words.extend([1, 0, len as u32, 1, 2, 3, 0, n as u32]);
+    let mut words = header(n as u32 + 1, len);
+    words.extend([1, 0, len as u32, 1, 2, 3, 0, n as u32, 1]);
     for handle in 1..=n as u32 {
-        words.extend([2, 3, 4, 0, 0, 0, 1, handle]);
+        words.extend([2, 3, 4, 0, 0, 0, 1, handle, 0]);
     }
     words
 }
@@ -94,9 +101,9 @@ fn texts_below_one_tag(len: usize, n: usize) -> Vec<u32> {
 /// Another: `n` tags side by side that all open with the page's first bytes, the later ones ending earlier, so that in closing
 /// order each comes before all that were listed.
 fn tags_ending_backwards(len: usize, opened: usize, n: usize) -> Vec<u32> {
-    let mut words = vec![n as u32, 0, len as u32, 8, 8, 0, 0, 0];
+    let mut words = header(n as u32, len);
     for handle in 0..n as u32 {
-        words.extend([1, 0, len as u32 - handle, 1, 2, opened as u32, 0, handle]);
+        words.extend([1, 0, len as u32 - handle, 1, 2, opened as u32, 0, handle, 1]);
     }
     words
 }
@@ -104,21 +111,21 @@ fn tags_ending_backwards(len: usize, opened: usize, n: usize) -> Vec<u32> {
 /// A third, of more rows than any page has: `n` tags, each in the one before it, over `n` texts without a byte.
 fn tags_over_no_text(len: usize, n: usize) -> Vec<u32> {
     let rows = 2 * n as u32;
-    let mut words = vec![rows, 0, len as u32, 8, 8, 0, 0, 0];
+    let mut words = header(rows, len);
     for handle in 0..n as u32 {
-        words.extend([1, 0, len as u32, 1, 2, 3, handle, rows - 1]);
+        words.extend([1, 0, len as u32, 1, 2, 3, handle, rows - 1, 1]);
     }
     for handle in n as u32..rows {
-        words.extend([2, 3, 3, 0, 0, 0, n as u32, handle]);
+        words.extend([2, 3, 3, 0, 0, 0, n as u32, handle, 0]);
     }
     words
 }
 
 /// A fourth: `n` tags side by side, the opening of each the whole page.
 fn tags_over_the_page(len: usize, n: usize) -> Vec<u32> {
-    let mut words = vec![n as u32, 0, len as u32, 8, 8, 0, 0, 0];
+    let mut words = header(n as u32, len);
     for handle in 0..n as u32 {
-        words.extend([1, 0, len as u32, 1, 2, len as u32, 0, handle]);
+        words.extend([1, 0, len as u32, 1, 2, len as u32, 0, handle, 0]);
     }
     words
 }

@@ -1,6 +1,6 @@
 //! Our calls, with buffers that are made once and lent to every call.
 use std::hint::black_box;
-use tl_rattle::sys;
+use tl_rattle::{sys, words_for};
 
 pub const SCAN: u32 = 0;
 pub const CLOSED: u32 = 1;
@@ -44,7 +44,7 @@ impl<'a> Reader<'a> {
     pub fn new(page: &'a [u8]) -> Self {
         Reader {
             page,
-            table: vec![0; 8 + 8 * NODES],
+            table: vec![0; words_for(NODES)],
             finds: vec![0; NODES],
             found: 0,
             answers: vec![0; 12 * NODES],
@@ -213,7 +213,7 @@ impl<'a> Reader<'a> {
 
     /// Whether a node is a tag.
     pub fn is_tag(&self, handle: usize) -> bool {
-        handle < self.nodes() && self.table[8 + 8 * handle] == 1
+        handle < self.nodes() && self.table[words_for(handle)] == 1
     }
 
     /// Takes the words as the page's table, and makes room for finds in all its rows.

@@ -171,10 +171,12 @@ impl Run<'_, '_> {
         let paper = self.expect(words.to_vec());
         let rows = self.tl.as_ref().map(TlPage::rows);
         let expected = reading.rows.iter().map(as_tl_has_it).collect::<Vec<_>>();
-        self.found.answers += words.len() as u64 / 8;
+        // the header, and each row
+        self.found.answers += 1 + reading.rows.len() as u64;
         let tl = rows.map(|rows| (rows, expected));
         check(&mut self.found, || Question::Nodes, ours, &paper, tl);
         self.max_nodes(reading.rows.len());
+        self.count_endings();
         self.version(reading);
         self.small_table(words.len());
     }
@@ -190,6 +192,16 @@ impl Run<'_, '_> {
                 paper: format!("at most {most}"),
                 tl: None,
             });
+        }
+    }
+
+    /// How the page's tags ended, unless the page was refused.
+    fn count_endings(&mut self) {
+        if self.refusal.is_some() {
+            return;
+        }
+        for tag in self.asked.rows.iter().filter(|row| row.is_tag()) {
+            self.found.ended[tag.ended as usize] += 1;
         }
     }
 

@@ -1,4 +1,5 @@
 //! What a comparison found: how much was compared, which known departures showed, and the differences.
+use crate::model::Ended;
 use crate::question::Question;
 
 /// The departures of docs/DIFFERENCES.md that a comparison can meet.
@@ -34,6 +35,17 @@ pub const DEPARTURES: [(Departure, &str); 5] = [
     ),
 ];
 
+/// The ways in which a tag ends.
+pub const ENDINGS: [(Ended, &str); 4] = [
+    (Ended::Open, "tags open at the end of the page"),
+    (Ended::Closed, "tags closed by a closing tag with its `>`"),
+    (
+        Ended::CutShort,
+        "tags closed by one that the page's end cut short",
+    ),
+    (Ended::NeverOpened, "tags never opened"),
+];
+
 /// An answer that is not as it should be.
 pub struct Difference {
     pub question: Question,
@@ -58,6 +70,8 @@ pub struct Findings {
     pub densest: u64,
     /// tags in which a name other than `id` and `class` is repeated
     pub repeating_tags: u64,
+    /// tags of pages that were read, by how they ended
+    pub ended: [u64; ENDINGS.len()],
     pub departures: [u64; DEPARTURES.len()],
     pub differences: Vec<Difference>,
 }

@@ -2,7 +2,7 @@
 //! mark before, and what the interface says of buffers is looked at each time: an accepted call fills the first entries and
 //! leaves the rest as it was, a refusal leaves zeros.
 use crate::ffi::{self, Said};
-use crate::model::{Held, Manner, Names, Piece, Texts};
+use crate::model::{Held, Manner, Names, Piece, Texts, HEADER_WORDS, ROW_WORDS};
 
 /// Why there is no answer.
 #[derive(Clone, Debug, PartialEq, Eq)]
@@ -68,7 +68,8 @@ pub fn read(page: &[u8], room: usize) -> Answer<Vec<u32>> {
     let said = ffi::parse(page, &mut table);
     if said.refusal == 0 {
         let [count] = said.numbers;
-        let used = count.saturating_mul(8).saturating_add(8);
+        let rows = count.saturating_mul(ROW_WORDS);
+        let used = rows.saturating_add(HEADER_WORDS);
         if used > room || table[used..].iter().any(|&word| word != MARK) {
             return Err(Refusal::Broken("words after the last row have changed"));
         }

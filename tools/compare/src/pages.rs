@@ -1,5 +1,5 @@
 //! Pages of many kinds, and damage done to them and to tables.
-use crate::model::{self, PAGE_LIMIT};
+use crate::model::{self, words_for, HEADER_WORDS, PAGE_LIMIT, ROW_WORDS};
 use crate::random::Random;
 
 /// The bytes of which every short page is made.
@@ -28,7 +28,7 @@ pub const PARTS: [&[u8]; 18] = [
 ];
 
 /// The pages that the paper and docs/DIFFERENCES.md name.
-pub const CHECKED: [&str; 22] = [
+pub const CHECKED: [&str; 28] = [
     "",
     "a",
     "a < b",
@@ -51,6 +51,12 @@ pub const CHECKED: [&str; 22] = [
     "<a><!doctype éx",
     "<a\tb>",
     "<!-->",
+    "<p></p>",
+    "<p></p",
+    "<br>",
+    "<p />",
+    "<></>",
+    "<></",
 ];
 
 /// How many rows there are of up to `length` of `letters` letters.
@@ -472,18 +478,19 @@ pub fn nested(depth: usize, random: &mut Random) -> Vec<u8> {
 pub fn with_rows(rows: usize, random: &mut Random) -> (Vec<u8>, Vec<u32>) {
     let page = [b"<p k=v class=c>", &of_markup(random)[..]].concat();
     let length = page.len() as u32;
-    let mut table = vec![rows as u32, 0, length, 8, 8, 0, 0, 0];
+    let mut table = model::header(rows as u32, 0, page.len()).to_vec();
     let mut parent = 0;
     for handle in 0..rows as u32 {
         if random.once_in(4) {
-            table.extend([1, 0, length, 1, 2, 15, parent, rows as u32 - 1]);
+            table.extend([1, 0, length, 1, 2, 15, parent, rows as u32 - 1, 0]);
             parent = handle + 1;
         } else {
             let start = random.below(page.len() + 1) as u32;
             let end = length.min(start + random.below(3) as u32);
-            table.extend([2, start, end, 0, 0, 0, parent, handle]);
+            table.extend([2, start, end, 0, 0, 0, parent, handle, 0]);
         }
     }
+    settle_endings(&mut table, random);
     (page, table)
 }
 
@@ -497,36 +504,58 @@ pub fn with_ends(random: &mut Random) -> (Vec<u8>, Vec<u32>) {
     }
     page.truncate(length);
     let mut table = model::words_of(length, &model::read(&page));
-    for row in table[8..].chunks_exact_mut(8) {
+    for row in rows_of(&mut table) {
         let opened = row[5] as usize;
         if row[0] == 1 {
             row[2] = (opened + random.below(length - opened + 1)) as u32;
         }
     }
+    settle_endings(&mut table, random);
     (page, table)
+}
+
+fn rows_of(table: &mut [u32]) -> impl Iterator<Item = &mut [u32]> {
+    table[HEADER_WORDS..].chunks_exact_mut(ROW_WORDS)
+}
+
+/// Gives every row a word 8 that soundness allows it, at random where it allows two.
+fn settle_endings(table: &mut [u32], random: &mut Random) {
+    for (handle, row) in rows_of(table).enumerate() {
+        let closed = row[2] > row[5];
+        let alone = row[7] as usize == handle;
+        let allowed: &[u32] = match row[0] {
+            1 if closed => &[1, 2],
+            1 if alone => &[0, 3],
+            _ => &[0],
+        };
+        row[8] = allowed[random.below(allowed.len())];
+    }
 }
 
 /// A table that is perhaps still sound, but as no reading makes it.
 pub fn change_table(table: &mut Vec<u32>, page_len: usize, random: &mut Random) {
-    match random.below(6) {
-        0 => spoil_table(table, page_len, random),
-        1 => {
-            change_places(table, page_len, random);
-            spoil_table(table, page_len, random);
-        }
-        2 => change_places(table, page_len, random),
+    let way = random.below(7);
+    match way {
+        1 | 2 => change_places(table, page_len, random),
         3 => nest_anew(table, random),
         4 => {
             change_places(table, page_len, random);
             nest_anew(table, random);
         }
-        _ => change_ends(table, page_len, random),
+        5 => change_ends(table, page_len, random),
+        _ => {}
+    }
+    settle_endings(table, random);
+    match way {
+        0 | 1 => spoil_table(table, page_len, random),
+        6 => spoil_ending(table, random),
+        _ => {}
     }
 }
 
 /// Gives some tags another end, often the same one: closed when they were not, in another order, or at equal ends.
 fn change_ends(table: &mut [u32], page_len: usize, random: &mut Random) {
-    for row in table[8..].chunks_exact_mut(8) {
+    for row in rows_of(table) {
         let opened = row[5];
         if row[0] == 1 && random.once_in(2) {
             let beyond = page_len - opened as usize;
@@ -558,14 +587,26 @@ fn spoil_table(table: &mut Vec<u32>, page_len: usize, random: &mut Random) {
     }
 }
 
+/// Changes word 8 of one row, or now and then the width of a row in the header, and nothing else, so that it alone decides.
+fn spoil_ending(table: &mut [u32], random: &mut Random) {
+    let rows = rows_of(table).count();
+    if rows == 0 || random.once_in(8) {
+        // a word less, the same, or a word more
+        table[4] = (ROW_WORDS - 1 + random.below(3)) as u32;
+        return;
+    }
+    let at = words_for(random.below(rows)) + 8;
+    table[at] = [0, 1, 2, 3, 4, u32::MAX][random.below(6)];
+}
+
 /// Gives some rows other places, in the order that soundness asks for.
 fn change_places(table: &mut [u32], page_len: usize, random: &mut Random) {
-    let rows = (table.len() - 8) / 8;
+    let rows = rows_of(table).count();
     for _ in 0..=random.below(3) {
         if rows == 0 {
             return;
         }
-        let at = 8 + 8 * random.below(rows);
+        let at = words_for(random.below(rows));
         let mut places: Vec<u32> = (0..5).map(|_| random.below(page_len + 1) as u32).collect();
         places.sort_unstable();
         if table[at] == 1 {
@@ -582,14 +623,14 @@ fn change_places(table: &mut [u32], page_len: usize, random: &mut Random) {
 
 /// Gives the tags other last descendants that nest, and every row the parent that follows from them.
 fn nest_anew(table: &mut [u32], random: &mut Random) {
-    let rows = (table.len() - 8) / 8;
+    let rows = rows_of(table).count();
     let mut open: Vec<(usize, usize)> = Vec::new();
     for handle in 0..rows {
         open.retain(|&(_, last)| last >= handle);
         let (parent, most) = open
             .last()
             .map_or((0, rows - 1), |&(h, last)| (h + 1, last));
-        let at = 8 + 8 * handle;
+        let at = words_for(handle);
         let last = match table[at] {
             1 => handle + random.below(most - handle + 1),
             _ => handle,

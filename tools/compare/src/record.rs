@@ -8,7 +8,10 @@ mod lists;
 
 use crate::asks::Asks;
 use crate::execution;
-use crate::model::{self, Asked, Held, Kind, Manner, Piece, PAGE_LIMIT, SELECTOR_LIMIT};
+use crate::model::{
+    self, words_for, Asked, Held, Kind, Manner, Piece, HEADER_WORDS, PAGE_LIMIT, ROW_WORDS,
+    SELECTOR_LIMIT,
+};
 use crate::pages;
 use crate::random::Random;
 use crate::selectors;
@@ -20,8 +23,9 @@ use std::path::Path;
 
 /// What `replay` sets every entry of a buffer to before a call.
 const MARK: usize = 9;
-/// The most rows that its table has room for.
-const ROWS: usize = 2_047;
+/// The words of its table, and the most rows that it has room for.
+const WORDS: usize = 16_384;
+const ROWS: usize = (WORDS - HEADER_WORDS) / ROW_WORDS;
 /// The most questions of one kind that are recorded of a random page.
 const FEW: usize = 5;
 
@@ -172,7 +176,7 @@ fn questions(to: &mut Recording, page: &[u8], random: &mut Random) {
     let asked = Asked::new(page, &reading.rows);
     let asks = Asks::of_page(&asked, random);
     let tl = TlPage::read(tl_side::as_str(page));
-    to.page(page, 1, 8 + 8 * reading.rows.len() + random.below(3));
+    to.page(page, 1, words_for(reading.rows.len()) + random.below(3));
     let beyond = reading.rows.len() + random.below(3);
     to.record([2, beyond, 0, 0], b"", "range", &[4, 0, 0, 0]);
     for &tag in asks.tags.iter().take(FEW) {
@@ -249,15 +253,16 @@ fn all_refused(to: &mut Recording, number: usize) {
 
 /// Zero length, the longest page and selector and one byte more, tables of few words.
 fn limits(to: &mut Recording) {
-    for words in [0, 7, 8, 15, 16] {
+    let one_row = words_for(1);
+    for words in [0, HEADER_WORDS - 1, HEADER_WORDS, one_row - 1, one_row] {
         to.page(b"", 1, words);
-        if words < 8 {
+        if words < HEADER_WORDS {
             all_refused(to, 3);
         }
         to.page(b"a", 1, words);
     }
     for (length, refused) in [(PAGE_LIMIT, false), (PAGE_LIMIT + 1, true)] {
-        to.page(b"a", length, 16);
+        to.page(b"a", length, one_row);
         to.list(
             ([8, 0, 1, 0], b"*", "query"),
             1,
@@ -268,7 +273,7 @@ fn limits(to: &mut Recording) {
             all_refused(to, 1);
         }
     }
-    to.page(b"<p>", 1, 16);
+    to.page(b"<p>", 1, one_row);
     for length in [SELECTOR_LIMIT, SELECTOR_LIMIT + 1] {
         let selector = b"a".repeat(length);
         to.selector(&selector);
@@ -285,7 +290,7 @@ fn limits(to: &mut Recording) {
 fn damaged_tables(to: &mut Recording) {
     let page = b"<table id=a><tr class=b><td>x</td><br></tr><!--c--></table>y";
     let rows = model::read(page).rows.len();
-    let table = to.page(page, 1, 8 + 8 * rows);
+    let table = to.page(page, 1, words_for(rows));
     for i in 0..table.len() {
         for value in [0, table[i].wrapping_add(1), u32::MAX] {
             let mut damaged = table.clone();
@@ -316,7 +321,7 @@ fn ends_in_other_orders(to: &mut Recording) {
     let text = [&open[..], &[b'x'; 3000], b"</p>"].concat();
     let page = text.repeat(TIMES);
     let rows = model::read(&page).rows.len();
-    let mut table = to.page(&text, TIMES, 8 + 8 * rows);
+    let mut table = to.page(&text, TIMES, words_for(rows));
     // the end of a tag that opens at a place, one of those in the page
     let orders: [fn(usize, usize, usize) -> usize; 3] = [
         |last, i, _| last - 340 * i,
@@ -326,7 +331,7 @@ fn ends_in_other_orders(to: &mut Recording) {
     for order in orders {
         let tags = (0..rows).filter(|handle| handle % 2 == 0);
         for (i, handle) in tags.enumerate() {
-            let word = 8 + 8 * handle + 2;
+            let word = words_for(handle) + 2;
             let end = order(page.len(), i, text.len() * i + open.len());
             table[word] = end as u32;
             to.word(word, end);
@@ -339,6 +344,30 @@ fn ends_in_other_orders(to: &mut Recording) {
         }
         let handle = asked.by_id(Manner::Closed, b"i").expect("a tag has it");
         to.record([5, 1, 0, 0], b"i", "id", &[0, 1, handle]);
+    }
+}
+
+/// A table with word 8 of one row changed at a time, to every number that means something and one more, and changed back:
+/// sound or not as the model says. Then the width of a row, to a word less and a word more.
+fn ended_in_other_ways(to: &mut Recording) {
+    let page = b"<p>x<br><b>y</b><!--c--><i><q></q";
+    let rows = model::read(page).rows.len();
+    let mut table = to.page(page, 1, words_for(rows));
+    let words = (0..rows).map(|handle| (words_for(handle) + 8, 0..=4));
+    let width = ROW_WORDS as u32;
+    for (word, values) in words.chain([(4, width - 1..=width + 1)]) {
+        let before = table[word];
+        for value in values.chain([before]) {
+            table[word] = value;
+            to.word(word, value as usize);
+            let sound = model::reading_of(page.len(), &table).is_some();
+            let said = if sound {
+                [0, rows - 1, 1, rows - 1]
+            } else {
+                [3, 0, 0, 0]
+            };
+            to.record([2, 0, 0, 0], b"", "range", &said);
+        }
     }
 }
 
@@ -385,6 +414,7 @@ pub fn record(folder: &Path, seed: u64) -> io::Result<()> {
     damaged_tables(&mut to);
     random_pages(&mut to, seed);
     ends_in_other_orders(&mut to);
+    ended_in_other_ways(&mut to);
     writeln!(to.printed, "records {}", to.records).expect("a string takes it");
     fs::write(folder.join("stdin"), &to.asked)?;
     fs::write(folder.join("stdout"), &to.printed)

@@ -1,5 +1,5 @@
 //! Counts by kind of input, and the first differences in their smallest form.
-use crate::findings::{Difference, Findings, DEPARTURES};
+use crate::findings::{Difference, Findings, DEPARTURES, ENDINGS};
 use crate::plan::{Input, Kind, KINDS};
 use crate::shrink::shrink;
 use std::collections::HashSet;
@@ -24,6 +24,7 @@ pub struct Report {
     not_utf8: u64,
     densest: u64,
     repeating_tags: u64,
+    ended: [u64; ENDINGS.len()],
     departures: [u64; DEPARTURES.len()],
     differences: u64,
     shown: Vec<(Kind, Input, Difference)>,
@@ -41,9 +42,8 @@ impl Report {
         self.not_utf8 += found.not_utf8;
         self.densest += found.densest;
         self.repeating_tags += found.repeating_tags;
-        for (sum, more) in self.departures.iter_mut().zip(found.departures) {
-            *sum += more;
-        }
+        add(&mut self.ended, found.ended);
+        add(&mut self.departures, found.departures);
         self.differences += found.differences.len() as u64;
         // The first of an input; the others mostly follow from it.
         if let Some(difference) = found.differences.into_iter().next() {
@@ -73,9 +73,8 @@ impl Report {
         self.not_utf8 += other.not_utf8;
         self.densest += other.densest;
         self.repeating_tags += other.repeating_tags;
-        for (sum, more) in self.departures.iter_mut().zip(other.departures) {
-            *sum += more;
-        }
+        add(&mut self.ended, other.ended);
+        add(&mut self.departures, other.departures);
         self.differences += other.differences;
         for shown in other.shown {
             if self.shows(&shown.2) {
@@ -121,6 +120,16 @@ impl Report {
             println!("{count:>12} {name}");
         }
         println!();
+        self.print_covered();
+        println!();
+        for (kind, input, difference) in &self.shown {
+            show(*kind, input, difference);
+        }
+        println!("{} differences", self.differences);
+    }
+
+    /// What a run wants to be sure that it met.
+    fn print_covered(&self) {
         println!(
             "{:>12} of the answers are to a list of handles, {} handles together",
             self.lists, self.listed
@@ -134,11 +143,15 @@ impl Report {
             "{:>12} pages with the most nodes that so many bytes may have",
             self.densest
         );
-        println!();
-        for (kind, input, difference) in &self.shown {
-            show(*kind, input, difference);
+        for (count, (_, name)) in self.ended.iter().zip(ENDINGS) {
+            println!("{count:>12} {name}");
         }
-        println!("{} differences", self.differences);
+    }
+}
+
+fn add<const N: usize>(sums: &mut [u64; N], more: [u64; N]) {
+    for (sum, more) in sums.iter_mut().zip(more) {
+        *sum += more;
     }
 }
 

@@ -4,8 +4,9 @@
 use std::fmt;
 
 use tl_rattle::calls::HeldAt;
-use tl_rattle::{max_nodes, words_for, Refusal};
+use tl_rattle::{max_nodes, words_for, Refusal, HEADER_WORDS, ROW_WORDS};
 
+use crate::ended::EndedCounts;
 use crate::questions::Questions;
 use crate::random::Random;
 use crate::reader::{Asked, Reader};
@@ -88,6 +89,8 @@ pub struct Counts {
     /// shorter than in the whole page
     pub texts_begun: usize,
     pub differences: usize,
+    /// no part of the statement
+    pub ended: EndedCounts,
 }
 
 /// The differences that are kept; all are counted.
@@ -130,6 +133,8 @@ pub struct Whole<'p, R> {
     lent: Vec<u32>,
     out: Vec<u32>,
     pub differences: Vec<Difference>,
+    /// where word 8 differs as no cut can make it
+    pub contradictions: Vec<String>,
 }
 
 impl<'p, R: Reader> Whole<'p, R> {
@@ -153,6 +158,7 @@ impl<'p, R: Reader> Whole<'p, R> {
             lent: vec![0; words_for(room)],
             out: vec![0; room],
             differences: Vec::new(),
+            contradictions: Vec::new(),
         };
         counts.pages += 1;
         counts.bytes += page.len();
@@ -163,7 +169,8 @@ impl<'p, R: Reader> Whole<'p, R> {
                     format!("the whole page is refused: {refusal}")
                 });
                 // as a page without nodes
-                whole.table = vec![0, 0, page.len() as u32, 8, 8, 0, 0, 0];
+                let [first, width] = [HEADER_WORDS as u32, ROW_WORDS as u32];
+                whole.table = vec![0, 0, page.len() as u32, first, width, 0, 0, 0];
             }
         }
         let count = Rows(&whole.table).count() as usize;
@@ -280,6 +287,7 @@ impl<'p, R: Reader> Whole<'p, R> {
                     table,
                 };
                 let tags = self.tags(counts, asked);
+                self.ended(counts, asked, &tags);
                 self.descendants(counts, Clause::Descendants, n, table);
                 let some = some_of(&tags, self.questions.tags, random);
                 self.attributes(counts, asked, reader, &some);
@@ -348,6 +356,20 @@ impl<'p, R: Reader> Whole<'p, R> {
         }
         self.table = table;
         tags
+    }
+
+    /// No part of the statement: word 8 of the tags that both pages have.
+    fn ended(&mut self, counts: &mut Counts, asked: Asked<'_>, tags: &[u32]) {
+        let (rows, whole) = (Rows(asked.table), Rows(&self.table));
+        for &h in tags.iter().filter(|h| whole.is_tag(**h)) {
+            let (from, to) = (whole.ended(h), rows.ended(h));
+            if !counts.ended.observe(from, to) && self.contradictions.len() < KEPT {
+                self.contradictions.push(format!(
+                    "cut at {}, handle {h}: word 8 is {from} in the whole page, {to} in the beginning",
+                    asked.page.len()
+                ));
+            }
+        }
     }
 
     /// Part 2: the same answer for every attribute name, and the same value bytes.
@@ -600,14 +622,19 @@ mod tests {
         below: 0,
     };
 
-    /// A page's texts at every cut: equal by the rule, before an unfinished comment, equal besides, begun.
-    fn texts(page: &[u8]) -> [usize; 4] {
+    fn at_every_cut(page: &[u8]) -> Counts {
         let mut counts = Counts::default();
         let mut whole = Whole::new(page, &ONLY_TEXTS, &Compiled, &mut counts);
         for n in 0..=page.len() {
             whole.cut(n, &Compiled, &mut Random::new(0, 0), &mut counts);
         }
         assert_eq!(counts.differences, 0);
+        counts
+    }
+
+    /// A page's texts at every cut: equal by the rule, before an unfinished comment, equal besides, begun.
+    fn texts(page: &[u8]) -> [usize; 4] {
+        let counts = at_every_cut(page);
         let all = counts.texts_same + counts.texts_besides + counts.texts_begun;
         assert_eq!(counts.texts, all);
         [
@@ -627,6 +654,20 @@ mod tests {
         assert_eq!(texts(b"<a>x<!--y-->"), [1, 0, 8, 1]);
         // an unfinished one ends where it starts
         assert_eq!(texts(b"<a>x<!--y"), [6, 6, 0, 1]);
+    }
+
+    #[test]
+    fn word_8_differs_in_every_way() {
+        let ended = |page: &[u8]| at_every_cut(page).ended.to_string();
+        let none = "1 to 0 0, 1 to 2 0, 0 to 2 0, 2 to 0 0, any other 0";
+        assert_eq!(ended(b"<br>x<p />y<p>z"), none);
+        let closed = "1 to 0 3, 1 to 2 1, 0 to 2 0, 2 to 0 0, any other 0";
+        assert_eq!(ended(b"<a></a>"), closed);
+        // closed only where the other name is cut
+        let open = "1 to 0 0, 1 to 2 0, 0 to 2 1, 2 to 0 0, any other 0";
+        assert_eq!(ended(b"<a></ab>"), open);
+        let cut_short = "1 to 0 0, 1 to 2 0, 0 to 2 0, 2 to 0 7, any other 0";
+        assert_eq!(ended(b"<a></ab></a"), cut_short);
     }
 
     #[test]

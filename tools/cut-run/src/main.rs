@@ -2,6 +2,7 @@
 //! compare: the page's first n bytes with the whole page, for each n from 0 to its length.
 
 mod compare;
+mod ended;
 mod pages;
 mod questions;
 mod random;
@@ -14,7 +15,7 @@ use std::time::Instant;
 use compare::{Clause, Counts, Difference, Whole};
 use questions::{questions, Extent, Questions};
 use random::Random;
-use reader::{Alteration, Altered, Compiled, Reader, ALTERATIONS};
+use reader::{Alteration, Altered, Compiled, EndedExchanged, Reader, ALTERATIONS};
 
 const HELP: &str = "\
 cut-run [OPTIONS]: compares the compiled calls on random pages and on each of their beginnings
@@ -24,11 +25,12 @@ cut-run [OPTIONS]: compares the compiled calls on random pages and on each of th
   --seed N       what decides the pages and what is asked (default 1)
   --from N       the number of the first page (default 0)
   --show N       differences printed (default 5)
-  --self-test    alters answers on purpose; each cut at which that happened must be reported
+  --self-test    alters answers on purpose; each cut at which that happened must be reported, but
+                 for word 8 of a row, of which no clause speaks
   --help         this text
 
 Exit status: 0 nothing differs; 1 something differs (with --self-test: something altered was not
-reported); 2 bad usage.";
+reported, or word 8 was); 2 bad usage.";
 
 struct Options {
     pages: usize,
@@ -102,18 +104,20 @@ fn case(seed: u64, number: usize, long: bool) -> (Vec<u8>, Questions, Random) {
     (page, questions, random)
 }
 
-/// Compares a page at every cut.
-fn compare(
+/// Compares a page, read by `reader`, with its beginnings, read by `beginnings`, at every cut. The differences, and where
+/// word 8 contradicts what a cut can do.
+fn compare<R: Reader, B: Reader>(
     page: &[u8],
     questions: &Questions,
+    (reader, beginnings): (&R, &B),
     random: &mut Random,
     counts: &mut Counts,
-) -> Vec<Difference> {
-    let mut whole = Whole::new(page, questions, &Compiled, counts);
+) -> (Vec<Difference>, Vec<String>) {
+    let mut whole = Whole::new(page, questions, reader, counts);
     for n in 0..=page.len() {
-        whole.cut(n, &Compiled, random, counts);
+        whole.cut(n, beginnings, random, counts);
     }
-    whole.differences
+    (whole.differences, whole.contradictions)
 }
 
 /// The page with as much left out as can be, while its beginnings, read by `reader`, still differ in the same clause.
@@ -164,9 +168,11 @@ fn run(options: &Options) -> bool {
     let long = (0..options.long).map(|number| (options.from + number, true));
     for (number, long) in short.chain(long) {
         let (page, questions, mut random) = case(options.seed, number, long);
-        let differences = compare(&page, &questions, &mut random, &mut counts);
+        let readers = (&Compiled, &Compiled);
+        let (differences, contradictions) =
+            compare(&page, &questions, readers, &mut random, &mut counts);
+        let kind = if long { "long page" } else { "page" };
         for (index, difference) in differences.iter().take(left).enumerate() {
-            let kind = if long { "long page" } else { "page" };
             println!(
                 "difference: seed {}, {kind} {number}: {difference}",
                 options.seed
@@ -178,10 +184,18 @@ fn run(options: &Options) -> bool {
             }
         }
         left -= differences.len().min(left);
+        for what in contradictions.iter().take(left) {
+            println!(
+                "contradiction: seed {}, {kind} {number}: {what}",
+                options.seed
+            );
+            println!("  page: {}", page.escape_ascii());
+        }
+        left -= contradictions.len().min(left);
     }
     print(&counts);
     println!("seconds {:.1}", start.elapsed().as_secs_f64());
-    counts.differences == 0
+    counts.differences == 0 && counts.ended.contradictions == 0
 }
 
 fn print(counts: &Counts) {
@@ -217,6 +231,10 @@ fn print(counts: &Counts) {
         counts.texts_begun
     );
     println!("differences {}", counts.differences);
+    println!(
+        "word 8 of a tag, in no clause, whole page to beginning: {}",
+        counts.ended
+    );
 }
 
 /// The part of the statement that an alteration must show in.
@@ -249,10 +267,40 @@ fn shows_in(alteration: Alteration) -> Clause {
     }
 }
 
+/// The pages of the self-test.
+const PAGES: usize = 60;
+
+/// Word 8 is left out on purpose: a cut may leave open what the whole page closes, and close what it leaves open, so the
+/// theorems do not cover this word. Another word 8, in the beginnings or in the whole page, must be reported in no clause,
+/// and be seen by the counts that stand apart.
+fn ended_is_left_out(seed: u64) -> bool {
+    let mut good = true;
+    for whole in [false, true] {
+        let mut counts = Counts::default();
+        let altered = EndedExchanged::default();
+        for number in 0..PAGES {
+            let (page, questions, mut random) = case(seed, number, false);
+            let (random, counts) = (&mut random, &mut counts);
+            if whole {
+                compare(&page, &questions, (&altered, &Compiled), random, counts)
+            } else {
+                compare(&page, &questions, (&Compiled, &altered), random, counts)
+            };
+        }
+        let (tags, reported) = (altered.exchanged.get(), counts.differences);
+        let pass = tags > 0 && reported == 0 && counts.ended.contradictions > 0;
+        good &= pass;
+        let side = if whole { "whole page" } else { "beginnings" };
+        let word = if pass { "left out" } else { "NOT LEFT OUT" };
+        println!("word 8 in the {side}: exchanged in {tags} tags, {word}; reported {reported}");
+        println!("  {}", counts.ended);
+    }
+    good
+}
+
 /// Alters the beginnings' answers, one alteration at a time: every cut at which an answer was altered must be reported, in
-/// the right clause, and no other cut. Then the whole pages' last descendants.
+/// the right clause, and no other cut. Then the whole pages' last descendants; then word 8, which must not be reported.
 fn self_test(options: &Options) -> bool {
-    const PAGES: usize = 60;
     let mut good = true;
     for alteration in ALTERATIONS {
         let (mut altered, mut missed, mut other) = (0, 0, 0);
@@ -302,6 +350,7 @@ fn self_test(options: &Options) -> bool {
             "{alteration:?}, in the whole page: altered {altered} pages, {word}; missed {missed}"
         );
     }
+    good &= ended_is_left_out(options.seed);
     let page = b"x <p id=a><b k=v>1</b></p><!--c--> y";
     let dom = tl_rattle::parse(page).expect("it is not too long");
     let questions = questions(&mut Random::new(options.seed, 0), &dom, &SHORT);

@@ -196,6 +196,7 @@ impl Reader for Altered {
                     table[row] = 2;
                     table[row + 3..row + 6].fill(0);
                     table[row + 7] = h;
+                    table[row + 8] = 0;
                 }
             }
             Alteration::TextMadeATag => {
@@ -205,6 +206,7 @@ impl Reader for Altered {
                     let (row, start) = (Rows::at(h), rows.start(h));
                     table[row] = 1;
                     table[row + 3..row + 6].copy_from_slice(&[start + 1, start + 1, start + 2]);
+                    table[row + 8] = 1;
                 }
             }
             Alteration::StartMoved => {
@@ -318,6 +320,38 @@ impl Reader for Altered {
         };
         self.take();
         altered
+    }
+}
+
+/// The calls, with word 8 of every tag exchanged for another one where the table stays sound with it, so that no call refuses
+/// the table.
+#[derive(Default)]
+pub struct EndedExchanged {
+    pub exchanged: Cell<usize>,
+}
+
+impl Reader for EndedExchanged {
+    fn parse(&self, page: &[u8], table: &mut [u32]) -> Result<usize, Refusal> {
+        let count = calls::parse(page, table)?;
+        for h in 0..count as u32 {
+            if let Some(other) = other_ending(Rows(table), h) {
+                table[Rows::at(h) + 8] = other;
+                self.exchanged.set(self.exchanged.get() + 1);
+            }
+        }
+        Ok(count)
+    }
+}
+
+/// Another word 8 for a tag's row: 1 and 2 stand for a closed tag; 0, and 3 where nothing descends from it, for one that is not.
+fn other_ending(rows: Rows<'_>, handle: u32) -> Option<u32> {
+    match rows.ended(handle) {
+        _ if !rows.is_tag(handle) => None,
+        0 if rows.last(handle) == handle => Some(3),
+        1 => Some(2),
+        2 => Some(1),
+        3 => Some(0),
+        _ => None,
     }
 }
 

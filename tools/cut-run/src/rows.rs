@@ -59,6 +59,12 @@ impl Rows<'_> {
         self.word(handle, 7)
     }
 
+    /// 0 open at the end of the page, 1 closed by a closing tag with its `>`, 2 by one that the page's end cut short, 3 never
+    /// opened.
+    pub fn ended(self, handle: u32) -> u32 {
+        self.word(handle, 8)
+    }
+
     /// The bytes of the texts after a tag up to its last, if they lie in the page.
     pub fn text(self, page: &[u8], handle: u32) -> Option<Vec<u8>> {
         let mut text = Vec::new();

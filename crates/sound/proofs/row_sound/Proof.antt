@@ -1,30 +1,33 @@
 -- `sound::row_sound` meets its contract: what the row says of itself and of its parent decides (`next-is`).
 use borrow.Author.Needs.{needs}
-use borrow.Author.Needs.{needs}
 use borrow.Author.Tests.{not-true, not-false, eq-eqb, ne-eqb}
 use native.Mathlib.Omega.{arith}
 use mathlib.Core.Path.{_≡_, refl, sym, ap, _∙_}
 use mathlib.Core.Bool.{Bool, true, false}
-use Prim.Native.Nat.{ℕ, _+_}
+use Prim.Native.Nat.{_+_}
 use Rattle.rules.specs.Scan.{pick}
 use Rattle.rules.specs.Sound.{tagged, parentAt}
-use Rattle.sound.specs.Row.{nextOf, underSound}
+use Rattle.sound.specs.Row.{nextOf}
 use Rattle.sound.specs.declared.Next.the-variants.{From, Unsound}
-use Rattle.sound.proofs.Rows.{next-is, own-parent, own-last}
+use Rattle.sound.proofs.Rows.{own-of, next-is, own-parent, own-last}
 use Rattle.sound.proofs.row_sound.Statement.{statement}
 use Rattle.sound.proofs.row_sound.Tie as tie
 
 returns : tie.Need-returns
 returns c =
     let a = c .before .before .before .before .args in
-    let own = sym (c .before .own-sound .ensures) ∙ not-true _ (c .if1 .taken) in
-    next-is (a .len) (a .table .now) (a .count) (a .h) _ (c .before .before .row-at .ensures) own refl refl
+    let row = c .before .before .row-at .ensures in
+    let own = own-of (a .len) (a .table .now) (a .count) (a .h) _ row (c .before .own-sound .ensures) (not-true _ (c .if1 .taken)) in
+    next-is (a .len) (a .table .now) (a .count) (a .h) _ row own refl refl
 
 under-requires : tie.Need-under-requires
 under-requires c κs =
     let s = c .before .before .before .before in
-    let own = sym (c .before .own-sound .ensures) ∙ not-false _ (c .if1 .left) in
-    ((omega arith, s .pre .0 .2, own-last (s .args .len) (s .args .table .now) (s .args .count) (s .args .h) (c .before .before .row-at .result) own), s .pre .1)
+    let a = s .args in
+    let n = c .before .before .row-at in
+    let own =
+    own-of (a .len) (a .table .now) (a .count) (a .h) (n .result) (n .ensures) (c .before .own-sound .ensures) (not-false _ (c .if1 .left)) in
+    ((omega arith, s .pre .0 .2, own-last (a .len) (a .table .now) (a .count) (a .h) (n .result) own), s .pre .1)
 
 -- the row is right by itself
 module _ (c : tie.After-under) where
@@ -35,7 +38,8 @@ module _ (c : tie.After-under) where
       let o = c .before .before in
       let n = o .before in
       let a = n .before .before .args in
-      let own = sym (o .own-sound .ensures) ∙ not-false _ (c .before .if1 .left) in
+      let right = not-false _ (c .before .if1 .left) in
+      let own = own-of (a .len) (a .table .now) (a .count) (a .h) _ (n .row-at .ensures) (o .own-sound .ensures) right in
       next-is (a .len) (a .table .now) (a .count) (a .h) _ (n .row-at .ensures) own (sym (c .under .ensures) ∙ u) k
 
 returns-2 : tie.Need-returns-2

@@ -10,7 +10,7 @@ use Rattle.table.proofs.close_in.Tie as tie
 
 returns : tie.Need-returns
 returns c =
-    let a = c .args in ap (λ (l : List ℕ). set (set l 2 (a .end)) 7 (a .last)) (row-words (a .row .now) (c .pre))
+    let a = c .args in ap (λ (l : List ℕ). set (set (set l 2 (a .end)) 7 (a .last)) 8 (a .ended)) (row-words (a .row .now) (c .pre))
 
 pub close-in-spec : {M : Type 1} → statement M
-close-in-spec = tie.close (tie.spec (λ c. search needs) (λ c. search needs) (λ c. search needs) returns)
+close-in-spec = tie.close (tie.spec (λ c. search needs) (λ c. search needs) (λ c. search needs) (λ c. search needs) returns)

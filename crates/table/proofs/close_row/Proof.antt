@@ -10,7 +10,7 @@ returns : tie.Need-returns
 returns c =
     let w = c .before .before in
     let a = w .before .before .before .args in
-    row-put (a .table .now) (a .h) (λ (n : Node). closed n (a .end) (a .last)) _ (w .close-in .ensures)
+    row-put (a .table .now) (a .h) (λ (n : Node). closed n (a .end) (a .last) (a .ended)) _ (w .close-in .ensures)
 
 pub close-row-spec : {M : Type 1} → statement M
 close-row-spec =

@@ -16,4 +16,4 @@ write-row-spec =
     tie.close
     (tie.spec (λ c. search needs) (λ c. search needs) (λ c. search needs) (λ c. search needs)
     (λ c. simp length-set (omega arith)) (λ c. simp length-set (omega arith)) (λ c. simp length-set (omega arith))
-    (λ c. simp length-set (omega arith)) (λ c. search needs) returns)
+    (λ c. simp length-set (omega arith)) (λ c. simp length-set (omega arith)) (λ c. search needs) returns)

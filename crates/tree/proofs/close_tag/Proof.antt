@@ -23,13 +23,14 @@ has-name-requires c κs =
 
 returns-2 : tie.Need-returns-2
 returns-2 c =
-    let y = c .before .before .before .before .before in
+    let w = c .before .before .before .before in
+    let y = w .before .before in
     let row = y .before .before in
     let x = row .before .before in
     let a = x .before .before .before .before .args in
     step-done refl
     (λ t hd R H. held-close H (a .page .now) (a .a) (a .e) (a .next) (some x) (row .row-at .ensures) (y .before .has-name .ensures)
-    (y .if2 .taken) (c .before .before .close-row .ensures))
+    (y .if2 .taken) (rw (w .ended-by .ensures) at (c .before .before .close-row .ensures)))
 
 returns-3 : tie.Need-returns-3
 returns-3 c =
@@ -45,5 +46,5 @@ pub close-tag-spec : {M : Type 1} → statement M
 close-tag-spec =
     tie.close
     (tie.spec (λ c. search needs) (λ c κs. search needs) returns (λ c. search needs) (λ c κs. search needs)
-    has-name-requires (λ c. search needs) (λ c. search needs) (λ c. search needs) (λ c κs. search needs)
+    has-name-requires (λ c. search needs) (λ c κs. search needs) (λ c. search needs) (λ c. search needs) (λ c κs. search needs)
     (λ c. search needs) returns-2 (λ c κs. search needs) (λ c. search needs) returns-3)

@@ -16,7 +16,7 @@ pub use lists::{Names, Texts};
 pub use lookup::{class_words, Asked};
 pub use reader::read;
 pub use selector::{read_selector, Piece};
-pub use table::{reading_of, words_of};
+pub use table::{header, reading_of, words_for, words_of, HEADER_WORDS, ROW_WORDS};
 
 /// The longest page and the longest selector that the library takes.
 pub const PAGE_LIMIT: usize = 65_536;
@@ -37,6 +37,19 @@ pub enum Kind {
     Comment,
 }
 
+/// How a row ended, with the paper's numbers. Texts and comments have 0.
+#[derive(Clone, Copy, Debug, PartialEq, Eq)]
+pub enum Ended {
+    /// open at the end of the page
+    Open = 0,
+    /// closed by a closing tag with its `>`
+    Closed = 1,
+    /// closed by one that the page's end cut short
+    CutShort = 2,
+    /// void, or with `/`
+    NeverOpened = 3,
+}
+
 /// A node. Name and opening mean something for tags only and are 0 elsewhere.
 #[derive(Clone, Debug, PartialEq, Eq)]
 pub struct Row {
@@ -48,6 +61,7 @@ pub struct Row {
     pub opened: usize,
     pub parent: Option<usize>,
     pub last: usize,
+    pub ended: Ended,
 }
 
 impl Row {

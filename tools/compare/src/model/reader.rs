@@ -1,6 +1,6 @@
 //! One step of the reader after the other, until the end of the page.
 use super::cursor::{is_closing, is_white, Cursor};
-use super::{Kind, Reading, Row, Span};
+use super::{Ended, Kind, Reading, Row, Span};
 
 const VOID_TAGS: [&[u8]; 15] = [
     b"area", b"base", b"br", b"col", b"embed", b"hr", b"img", b"input", b"keygen", b"link",
@@ -72,6 +72,7 @@ impl Reader<'_> {
             opened,
             parent: self.open.last().copied(),
             last: handle,
+            ended: Ended::Open,
         });
         handle
     }
@@ -79,10 +80,14 @@ impl Reader<'_> {
     fn closing_tag(&mut self) {
         self.at.pass(1);
         let name = self.at.run(|byte| byte != b'>');
-        self.at.pass_if(b'>');
+        let ended = match self.at.pass_if(b'>') {
+            true => Ended::Closed,
+            false => Ended::CutShort,
+        };
         if let Some(&handle) = self.open.last() {
             if self.at.part(self.rows[handle].name) == self.at.part(name) {
                 self.rows[handle].end = self.at.place;
+                self.rows[handle].ended = ended;
                 self.open.pop();
             }
         }
@@ -130,13 +135,15 @@ impl Reader<'_> {
     fn tag(&mut self, start: usize) {
         let name = self.at.identifier();
         attributes(&mut self.at);
-        let never_opened = self.at.pass_if(b'/');
+        let slash = self.at.pass_if(b'/');
         if !self.at.pass_if(b'>') {
             return;
         }
         let end = self.at.place;
         let handle = self.add(Kind::Tag, start, end, name, end);
-        if !never_opened && !VOID_TAGS.contains(&self.at.part(name)) {
+        if slash || VOID_TAGS.contains(&self.at.part(name)) {
+            self.rows[handle].ended = Ended::NeverOpened;
+        } else {
             self.open.push(handle);
         }
     }
