@@ -2,6 +2,9 @@
 // from the end of the one before up to its place in `ends`. Each has three words: which of the three held (0 absent, 1 without
 // a value, 2 with a value), and where a value starts and ends. An attribute finds the one name that it may have by a table of 256
 // slots, which a caller fills once, by `fill_slots`, and lends down.
+
+#![tactic(auto)]
+
 ghost use Rattle.std.specs.Prelude.{◌≡◌, false, [], ◌∷◌, suc, ◌*◌, ◌≤◌, ◌<◌, length, get_or, take, replicate};
 ghost use Rattle.rules.specs.Scan.{part};
 ghost use Rattle.rules.specs.Words.{Within};

@@ -1,4 +1,7 @@
 // The calls on a list of handles: one test of page, table and handles, then the single call's answer for each handle, in order.
+
+#![tactic(auto)]
+
 ghost use Rattle.std.specs.Prelude.{◌≡◌, true, false, not, ◌++◌, ◌+◌, ◌*◌, ◌≤◌, ◌<◌, ltb, length, drop, replicate};
 ghost use Rattle.rules.specs.Bytes.{is_white};
 ghost use Rattle.rules.specs.Sound.{count_of, sound};
@@ -329,7 +332,7 @@ fn next_text(skip: &[u32], step: usize, k: usize) -> usize
 }
 
 // The place after a text that was written, or there is no room for it.
-#[derive(Drop)]
+#[derive(Clone, Copy)]
 enum Put {
     Until(usize),
     Short,

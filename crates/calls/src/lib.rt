@@ -1,4 +1,7 @@
 // The public calls: each answers for every page, table, handle, name and buffer, and refuses in the order of the numbers.
+
+#![tactic(auto)]
+
 ghost use Rattle.std.specs.Prelude.{◌≡◌, true, ◌<◌, length};
 ghost use Rattle.rules.specs.Bytes.{is_white};
 ghost use Rattle.rules.specs.Refusals.{Counts, Refuses, asking, asking_tag, held_part};
@@ -181,7 +184,7 @@ pub fn get_elements_by_class_name(
 // ---- queries
 
 // Where a query looks: over the page, or below a tag.
-#[derive(Drop)]
+#[derive(Clone, Copy)]
 enum Scope {
     Page,
     Below(usize),

@@ -1,4 +1,7 @@
 // Comparisons of page bytes with fixed byte strings: tl's parser/constants, util::to_lower, simd::matches_case_insensitive.
+
+#![tactic(auto)]
+
 ghost use Rattle.std.specs.Prelude.{◌≡◌, ◌&&◌, suc};
 ghost use Rattle.rules.specs.Bytes.{is};
 ghost use Rattle.rules.specs.Scan.{here, same};

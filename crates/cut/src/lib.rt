@@ -1,1 +1,3 @@
 // A page cut off: the statement is in specs/, its proof in proofs/. There is no code here.
+
+#![tactic(auto)]

@@ -1,4 +1,7 @@
 // Reads a number in decimal digits.
+
+#![tactic(auto)]
+
 ghost use Rattle.std.specs.Prelude.{◌≡◌, ◌-◌, min};
 ghost use Rattle.rules.specs.Scan.{skip};
 ghost use Rattle.decimal.specs.Digits.{is_digit, value_from, limit, number_at};
@@ -7,7 +10,7 @@ ghost use Rattle.decimal.specs.Digits.{is_digit, value_from, limit, number_at};
 const LIMIT: u64 = 4294967296;
 
 // A number, and the place after it.
-#[derive(Drop)]
+#[derive(Clone, Copy)]
 pub enum Number {
     Read(u32, usize),
     Bad,

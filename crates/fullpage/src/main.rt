@@ -1,5 +1,8 @@
 // Writes a page that has the most nodes that a page of its length may have: reads the length on standard input, 1 to 5 digits
 // and one line feed after them if any, and writes the page, or `refused`.
+
+#![tactic(auto)]
+
 ghost use Rattle.std.specs.Prelude.{◌≡◌, ◌≤◌, length};
 ghost use Rattle.rules.specs.Refusals.{page_limit};
 ghost use Rattle.rules.specs.Buffers.{Wrote};
@@ -11,7 +14,7 @@ use decimal::Number;
 const LIMIT: u32 = 65536;
 
 // How many bytes of a page are asked for.
-#[derive(Drop)]
+#[derive(Clone, Copy)]
 enum Length {
     Of(usize),
     Refused,

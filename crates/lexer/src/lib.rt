@@ -1,4 +1,7 @@
 // One step of the reader (parser/base): what stands at a place of a page. `s` is the page, `t` the lent table of marks.
+
+#![tactic(auto)]
+
 ghost use Rattle.std.specs.Prelude.{◌≡◌, ◌≤◌, ◌<◌, length};
 ghost use Rattle.rules.specs.Bytes.{is_ident};
 ghost use Rattle.rules.specs.Scan.{skip, pass};

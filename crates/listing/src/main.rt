@@ -1,4 +1,7 @@
 // Lists the nodes of a page: reads it on standard input, and writes a line for each node, or the line of a refusal.
+
+#![tactic(auto)]
+
 ghost use Rattle.listing.specs.Lists.{Lists};
 
 use rules::Counted;

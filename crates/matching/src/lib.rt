@@ -1,5 +1,8 @@
 // Does a node match a selector (queryselector/selector.rs): one simple selector, and a chain of pieces. `t` is the lent table
 // of marks, `page` the page, `s` the selector's bytes.
+
+#![tactic(auto)]
+
 ghost use Rattle.std.specs.Prelude.{◌≡◌, false, ◌*◌, ◌≤◌, ◌<◌, length};
 ghost use Rattle.rules.specs.Scan.{part, same};
 ghost use Rattle.rules.specs.Words.{Within, ascii_white, has_word};
@@ -36,7 +39,7 @@ fn name(page: &[u8], n: Node) -> &[u8]
 
 // How a value v is compared with a text k: v is k, has the word k, begins with it, ends in it, holds it. Class values are cut
 // into words at ASCII white, those of `~=` at Unicode white.
-#[derive(Drop)]
+#[derive(Clone, Copy)]
 enum Compare {
     Equal,
     ClassWord,
@@ -248,7 +251,7 @@ pub fn fits(t: &[u8; 256], page: &[u8], n: Node, s: &[u8], x: Simple) -> bool
 // ---- a chain of pieces
 
 // What a piece settles of its chain: the answer, or that the rest decides.
-#[derive(Drop)]
+#[derive(Clone, Copy)]
 enum Settled {
     Answer(bool),
     Rest,

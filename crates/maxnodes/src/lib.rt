@@ -1,5 +1,8 @@
 // How many nodes a page of so many bytes may have. The bound is stated in specs/ and proved in proofs/; here a page is written
 // that attains it.
+
+#![tactic(auto)]
+
 ghost use Rattle.std.specs.Prelude.{◌≡◌, length};
 ghost use Rattle.maxnodes.specs.Bound.{following, densest};
 

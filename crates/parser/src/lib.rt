@@ -1,4 +1,7 @@
 // Reading a page (parser/base): the items of a page of bytes, one after the other, into a lent table of words.
+
+#![tactic(auto)]
+
 ghost use Rattle.std.specs.Prelude.{◌≤◌, length};
 ghost use Rattle.rules.specs.Bytes.{is_white};
 ghost use Rattle.rules.specs.Names.{is_void};

@@ -1,4 +1,7 @@
 // The written form of a piece: six words, written and read back.
+
+#![tactic(auto)]
+
 ghost use Rattle.std.specs.Prelude.{◌≡◌, ◌++◌, ◌+◌, ◌*◌, ◌≤◌, length, drop};
 ghost use Rattle.rules.specs.Chain.{joiner_word, six_words, simple_words};
 ghost use Rattle.piece.specs.Words.{piece_words, simple_from, joiner_from, piece_of, piece_at};
@@ -9,7 +12,7 @@ use rules::{Joiner, Piece, Simple, Span};
 pub const WORDS: usize = 6;
 
 // What a simple selector writes: its kind, its first name, its second name; 0 and 0 where a name is missing.
-#[derive(Drop)]
+#[derive(Clone, Copy)]
 struct Row(u32, Span, Span);
 
 fn row_of(x: Simple) -> Row

@@ -1,5 +1,8 @@
 // The selector reader (stream, queryselector/parser): the chain of pieces that a selector is, written into lent words.
 // `t` is the lent table of marks.
+
+#![tactic(auto)]
+
 ghost use Rattle.std.specs.Prelude.{◌≡◌, ◌++◌, ◌<◌, ◌≤◌, length, take, drop, replicate};
 ghost use Rattle.rules.specs.Chain.{combinator_at, chain_at, read_selector};
 ghost use Rattle.rules.specs.Refusals.{selector_limit};
@@ -15,7 +18,7 @@ pub const LIMIT: usize = 128;
 pub const ROOM: usize = 768;
 
 // How many pieces were read, or that the selector is refused.
-#[derive(Drop)]
+#[derive(Clone, Copy)]
 pub enum Chain {
     Pieces(usize),
     Refused,

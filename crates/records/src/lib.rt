@@ -1,5 +1,8 @@
 // A list of recorded questions, and the lines of their answers. A record is a line of five numbers, the last of which says how
 // many bytes follow; then these bytes, and a line feed.
+
+#![tactic(auto)]
+
 ghost use Rattle.std.specs.Prelude.{◌≡◌, ◌∷◌, ◌++◌, length};
 ghost use Rattle.lines.specs.Decimal.{decimal};
 ghost use Rattle.lines.specs.Lines.{field};
@@ -11,7 +14,7 @@ use decimal::Number;
 use rules::Expected;
 
 // The five numbers of a record: what is asked, three more, and how many bytes follow.
-#[derive(Drop)]
+#[derive(Clone, Copy)]
 pub struct Head {
     pub op: u32,
     pub a: u32,
@@ -21,14 +24,14 @@ pub struct Head {
 }
 
 // A record's numbers, and the place where its bytes start.
-#[derive(Drop)]
+#[derive(Clone, Copy)]
 pub enum Record {
     Whole(Head, usize),
     Bad,
 }
 
 // The place after what was read or written, or none for a record that is not one.
-#[derive(Drop)]
+#[derive(Clone, Copy)]
 pub enum Place {
     To(usize),
     Bad,

@@ -14,6 +14,9 @@
 // --record. Accepted questions to a page have tl 0.7.8's own answers, those to a list of handles one tag after the other. The
 // words of a table are a model's, once tl's nodes agree with it; refusals, what a buffer holds, and the answers about a table that
 // was changed follow the rules.
+
+#![tactic(auto)]
+
 ghost use Rattle.std.specs.Prelude.{◌≡◌, [], ◌∷◌, ◌≤◌, length, set};
 ghost use Rattle.rules.specs.Ascii.{bytes};
 ghost use Rattle.rules.specs.Bytes.{is_white};
@@ -34,21 +37,21 @@ use records::{Head, Place, Record};
 const MOST: usize = 256;
 
 // How many bytes of the page and words of the table the questions are about.
-#[derive(Drop)]
+#[derive(Clone, Copy)]
 enum Lent {
     Parts(usize, usize),
     Bad,
 }
 
 // The place after a record that was answered, and the bytes of the page and the words of the table that are lent from then on.
-#[derive(Drop)]
+#[derive(Clone, Copy)]
 enum Step {
     To(usize, usize, usize),
     Bad,
 }
 
 // How many records were answered.
-#[derive(Drop)]
+#[derive(Clone, Copy)]
 enum Ended {
     Answered(usize),
     Bad,

@@ -1,6 +1,9 @@
 // Scans over a page: tl's util and simd, and Stream's reads of one byte. A place past the end counts as the end.
 // The leaf tests read one table of marks. A caller makes it once, by `mark_table`, and lends it down: used in place, the
 // constant would be built anew at each use.
+
+#![tactic(auto)]
+
 ghost use Rattle.std.specs.Prelude.{◌≡◌, false, ◌+◌, ◌≤◌, min, length, get_or};
 ghost use Rattle.rules.specs.Bytes.{is_ident, is_closing, other, is};
 ghost use Rattle.rules.specs.Scan.{skip, here, pass, part as part_of};

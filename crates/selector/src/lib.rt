@@ -1,4 +1,7 @@
 // One simple selector (queryselector/parser): read at a place of a selector's bytes. `t` is the lent table of marks.
+
+#![tactic(auto)]
+
 ghost use Rattle.std.specs.Prelude.{◌≡◌};
 ghost use Rattle.rules.specs.Selector.{spaces_end, ident_end, ident, closed_at, quoted_at, operand_at, operated, attribute_from, simple_at};
 ghost use Rattle.scan.specs.Marks.{Marked};

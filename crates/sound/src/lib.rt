@@ -1,4 +1,7 @@
 // Whether a table of arbitrary words is sound for a page of `len` bytes, in time linear in the rows.
+
+#![tactic(auto)]
+
 ghost use Rattle.std.specs.Prelude.{◌≡◌, ◌&&◌, ℕ, ◌+◌, ◌≤◌, ◌<◌, length};
 ghost use Rattle.rules.specs.Table.{head_words, row_words, row_at, node_at};
 ghost use Rattle.rules.specs.Sound.{places_sound, ended_sound, head_sound, parent_at, row_sound, sound, all};
@@ -116,7 +119,7 @@ fn under(table: &[u32], n: Node, h: usize, from: usize) -> bool
 }
 
 // What a row leaves for the next one: where that one's climb starts; or the row is not sound.
-#[derive(Drop)]
+#[derive(Clone, Copy)]
 enum Next {
     From(usize),
     Unsound,

@@ -1,5 +1,8 @@
 // The table of nodes in a lent slice of words: a header, then a row for each node. It stands for tl's Vec of nodes.
 // What writes or reads a row is lent the row's own part of the table.
+
+#![tactic(auto)]
+
 ghost use Rattle.std.specs.Prelude.{◌≡◌, ◌++◌, ◌+◌, ◌≤◌, length, drop, replicate};
 ghost use Rattle.rules.specs.Reader.{closed};
 ghost use Rattle.rules.specs.Table.{head_words, row_words, words_of, row_at, put_row, node_of, node_at, head_of};

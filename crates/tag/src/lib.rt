@@ -1,4 +1,7 @@
 // What a tag is asked for (parser/tag): its attributes, the range of its handles, its inner text.
+
+#![tactic(auto)]
+
 ghost use Rattle.std.specs.Prelude.{◌≡◌, true, false, ◌+◌, ◌≤◌, ◌<◌, length};
 ghost use Rattle.rules.specs.Scan.{part, same};
 ghost use Rattle.rules.specs.Words.{Within};
@@ -30,7 +33,7 @@ pub fn is_tag(table: &[u32], len: usize, h: usize) -> bool
 // ---- attributes: `t` is the lent table of marks
 
 // The next of a tag's attributes, or their end.
-#[derive(Drop)]
+#[derive(Clone, Copy)]
 pub enum Next {
     Found(Attribute),
     End,

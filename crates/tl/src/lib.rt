@@ -1,5 +1,8 @@
 // The library for C and Rust programs: every call on numbers and slices. A call returns the refusal's number, or 0, and
 // leaves the count and the answer's values where the caller asks for them. include/tl.h declares them.
+
+#![tactic(auto)]
+
 ghost use Rattle.std.specs.Prelude.{◌≡◌, [], ◌∷◌, length};
 ghost use Rattle.rules.specs.Bytes.{is_white};
 ghost use Rattle.rules.specs.Names.{is_void};

@@ -1,5 +1,8 @@
 // The reader's tree (parser/base): each item that was read goes into the lent table.
 // There is no stack: the open tags are the innermost one and, by word 6 of the rows, its parents.
+
+#![tactic(auto)]
+
 ghost use Rattle.std.specs.Prelude.{◌≡◌, ◌≤◌, ◌<◌, pred, length};
 ghost use Rattle.rules.specs.Scan.{pick, part, same};
 ghost use Rattle.rules.specs.Names.{is_void};

@@ -1,5 +1,8 @@
 // Lookups by id and class in the scan manner, and queries (vdom, queryselector/iter): walks over the handles of a table.
 // `t` is the lent table of marks, and `table` is sound for `page`.
+
+#![tactic(auto)]
+
 ghost use Rattle.std.specs.Prelude.{◌≡◌, true, ◌+◌, ◌*◌, ◌≤◌, ◌<◌, length};
 ghost use Rattle.rules.specs.Lists.{from, only};
 ghost use Rattle.rules.specs.Sound.{count_of, sound};
@@ -23,7 +26,7 @@ fn row_count(table: &[u32]) -> usize
 }
 
 // What a walk asks of each node: does its class value hold the name s, or does it match the chain that the words say.
-#[derive(Drop)]
+#[derive(Clone, Copy)]
 enum Ask {
     Class,
     Chain,

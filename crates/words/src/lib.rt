@@ -1,5 +1,8 @@
 // The tests that selectors and class lookups make of an attribute's value v: does it begin with k, end in k, hold k, hold k
 // as a word. Bytes are compared as they are, case included.
+
+#![tactic(auto)]
+
 ghost use Rattle.std.specs.Prelude.{◌≡◌, [], ◌∷◌, get_or, drop};
 ghost use Rattle.rules.specs.Names.{one_of};
 ghost use Rattle.rules.specs.Words.{begins, ends, word, has_word, unicode_white};
