@@ -1,0 +1,20 @@
+-- `scan::search_non_value` meets its contract: the run from `at` is the run from i.
+use mathlib.Core.Path.{◌≡◌, refl}
+use Prim.Native.Nat.{◌-◌}
+use native.Mathlib.Omega.{arith}
+use borrow.Author.Rules.{rules}
+use lib.ListN.{length}
+use Rattle.rules.specs.Scan.{skip}
+use Rattle.rules.specs.Attributes.{in_value}
+use Rattle.scan.specs.Marks.{white_in}
+use Rattle.rules.proofs.Runs.{again, stopped, ended, answered}
+use Rattle.scan.proofs.search_non_value.Goals as goal
+
+pub loop-i-preserved : goal.loop-i-preserved
+loop-i-preserved c = search (again, answered)
+
+pub returns-else-in_value : goal.returns-else-in_value
+returns-else-in_value c = search (stopped, answered)
+
+pub returns : goal.returns
+returns c = search ended

@@ -1,0 +1,34 @@
+-- `selector::parse_simple` meets its contract: by the byte at the place, or the end.
+use borrow.Author.Rules.{rules}
+use Rattle.selector.proofs.Steps.{byte_within, simple_end, simple_id, simple_class, simple_all, simple_attribute, simple_tag, simple_none}
+use Rattle.selector.proofs.parse_simple.Goals as goal
+
+pub returns-in_default : goal.returns-in_default
+returns-in_default c = search simple_end
+
+pub read_identifier-id-requires : goal.read_identifier-id-requires
+read_identifier-id-requires c = search byte_within
+
+pub read_identifier-class-requires : goal.read_identifier-class-requires
+read_identifier-class-requires c = search byte_within
+
+pub parse_attribute-requires : goal.parse_attribute-requires
+parse_attribute-requires c = search byte_within
+
+pub returns-in-35 : goal.returns-in-35
+returns-in-35 c = search simple_id
+
+pub returns-in-46 : goal.returns-in-46
+returns-in-46 c = search simple_class
+
+pub returns-in-42 : goal.returns-in-42
+returns-in-42 c = search simple_all
+
+pub returns-in-91 : goal.returns-in-91
+returns-in-91 c = search simple_attribute
+
+pub returns-then-is_ident : goal.returns-then-is_ident
+returns-then-is_ident c = search simple_tag
+
+pub returns-else-is_ident : goal.returns-else-is_ident
+returns-else-is_ident c = search simple_none

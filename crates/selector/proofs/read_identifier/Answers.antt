@@ -1,0 +1,13 @@
+-- `selector::read_identifier` meets its contract: the identifier's end is no further than the selector's.
+use borrow.Author.Rules.{rules}
+use native.Mathlib.Omega.{arith}
+use Rattle.rules.specs.Bytes.{is_ident}
+use Rattle.rules.proofs.Runs.{skip_le}
+use Rattle.selector.proofs.read_identifier.Goals as goal
+
+pub overflow_cast-result-2 : goal.overflow_cast-result-2
+overflow_cast-result-2 c = let l = skip_le is_ident c.args.s.now c.args.at c.requires.1.place in
+    omega (arith, c.search_non_ident-end.ensures, l, c.requires.1.short)
+
+pub returns : goal.returns
+returns c = rw c.search_non_ident-end.ensures

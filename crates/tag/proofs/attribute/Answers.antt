@@ -1,0 +1,11 @@
+-- `tag::attribute` meets its contract: what `get` says of the lent part, said of the page (`looked`).
+use borrow.Author.Rules.{rules}
+use native.Mathlib.Omega.{arith}
+use Rattle.tag.proofs.Looks.{length_up_to, looked}
+use Rattle.tag.proofs.attribute.Goals as goal
+
+pub get-requires : goal.get-requires
+get-requires c = (c.requires.0, omega (arith, length_up_to c.args.page.now c.args.n c.requires.2))
+
+pub returns : goal.returns
+returns c = looked c.args.page.now c.args.n c.requires.2 _ _ _ c.get.ensures

@@ -1,0 +1,8 @@
+-- `tag::held` meets its contract: by the two cases of a value.
+use borrow.Author.Rules.{rules}
+use mathlib.Core.Path.{ap, sym}
+use Rattle.rules.specs.Lookup.{held_as}
+use Rattle.tag.proofs.held.Goals as goal
+
+pub returns-in-Given : goal.returns-in-Given
+returns-in-Given c = sym (ap (held_as c.args.bare) c.in-Given.is)

@@ -1,0 +1,31 @@
+-- `tree::close_tag` meets its contract: by the innermost open tag and its name.
+use borrow.Author.Rules.{rules}
+use mathlib.Core.Path.{refl}
+use Prim.Native.Nat.{◌<◌}
+use native.Mathlib.Omega.{arith}
+use Rattle.tree.proofs.Steps.{step_done, held_none, held_other, held_close}
+use Rattle.tree.proofs.close_tag.Goals as goal
+use Rattle.tree.proofs.close_tag.Goals.{Else-inner-eq0}
+
+pub returns-then-inner-eq0 : goal.returns-then-inner-eq0
+returns-then-inner-eq0 c = let a = c.args in
+    step_done c.moved.ensures (λ t hd R H. held_none H a.page.now a.a a.e a.next c.if-inner-eq0.true)
+
+-- a tag is open
+some : (c : Else-inner-eq0) → 0 < c.args.s.inner
+some c = omega (arith, c.if-inner-eq0.false)
+
+pub has_name-requires : goal.has_name-requires
+has_name-requires c = let pre = c.requires in (rw c.row_at-n.ensures (pre.1.name (some (goal.at.has_name-requires c).Else-inner-eq0)), pre.2.0)
+
+pub returns-then-has_name : goal.returns-then-has_name
+returns-then-has_name c = let a = c.args in
+    step_done refl
+    (λ t hd R H. held_close H a.page.now a.a a.e a.next (some (goal.at.returns-then-has_name c).Else-inner-eq0) c.row_at-n.ensures c.has_name.ensures
+    c.if-has_name.true (rw c.ended_by-ended.ensures at c.close_row.ensures))
+
+pub returns : goal.returns
+returns c = let a = c.args in
+    step_done c.moved-2.ensures
+    (λ t hd R H. held_other H a.page.now a.a a.e a.next (some (goal.at.returns c).Else-inner-eq0) c.row_at-n.ensures c.has_name.ensures
+    c.if-has_name.false)

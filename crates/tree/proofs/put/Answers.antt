@@ -1,0 +1,46 @@
+-- `tree::put` meets its contract: by the item.
+use borrow.Author.Rules.{rules}
+use mathlib.Core.Path.{sym, ap}
+use native.Mathlib.Omega.{arith}
+use Rattle.rules.specs.Names.{is_void}
+use Rattle.rules.specs.Reader.{put}
+use Rattle.tree.proofs.Steps.{held_moved, held_version, step_as, step_done}
+use Rattle.tree.proofs.put.Goals as goal
+
+pub put_leaf-requires : goal.put_leaf-requires
+put_leaf-requires c = let pre = c.requires in
+    let f = rw c.in-Text.is at pre.2 in (pre.0, (f.0, omega (arith, f.1, pre.3)))
+
+pub close_tag-requires : goal.close_tag-requires
+close_tag-requires c = let pre = c.requires in (pre.0, pre.1, rw c.in-Close.is at pre.2, pre.3)
+
+pub put_leaf-requires-in-Comment : goal.put_leaf-requires-in-Comment
+put_leaf-requires-in-Comment c = let pre = c.requires in
+    let f = rw c.in-Comment.is at pre.2 in (pre.0, (f.0.0, omega (arith, f.0.1, pre.3)))
+
+pub put_tag-requires : goal.put_tag-requires
+put_tag-requires c = let pre = c.requires in (pre.0, rw c.in-Tag.is at pre.2, pre.3)
+
+pub returns-in-Text : goal.returns-in-Text
+unfolding put
+returns-in-Text c = step_as (λ t hd R H. rw (c.in-Text.is, ← H.at)) c.put_leaf.ensures
+
+pub returns-in-Close : goal.returns-in-Close
+returns-in-Close c = step_as (λ t hd R H. ap (put is_void c.args.page.now R) (sym c.in-Close.is))
+    c.close_tag.ensures
+
+pub returns-in-Comment : goal.returns-in-Comment
+unfolding put
+returns-in-Comment c = step_as (λ t hd R H. rw c.in-Comment.is) c.put_leaf-in-Comment.ensures
+
+pub returns-in-Doctype : goal.returns-in-Doctype
+returns-in-Doctype c = step_done c.set_version.ensures
+    (λ t hd R H. rw c.in-Doctype.is (held_version H c.args.page.now _ _))
+
+pub returns-in-Tag : goal.returns-in-Tag
+returns-in-Tag c = step_as (λ t hd R H. ap (put is_void c.args.page.now R) (sym c.in-Tag.is))
+    c.put_tag.ensures
+
+pub returns-in-Nothing : goal.returns-in-Nothing
+unfolding put
+returns-in-Nothing c = step_done c.moved.ensures (λ t hd R H. rw c.in-Nothing.is (held_moved H _))

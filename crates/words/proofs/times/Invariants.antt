@@ -1,0 +1,22 @@
+-- `words::times` meets its contract: n words before `start` are k, and from there to i stands the word so far.
+use borrow.Author.Rules.{rules}
+use mathlib.Core.Path.{◌≡◌}
+use Prim.Native.Nat.{zero, ◌+◌, ◌-◌, ◌≤◌}
+use native.Mathlib.Omega.{arith}
+use lib.ListN.{length, drop}
+use Rattle.rules.specs.Scan.{part}
+use Rattle.rules.specs.Words.{words, words_from, times}
+use Rattle.words.specs.Separators.{separators}
+use Rattle.words.proofs.Gaps.{gap_in}
+use Rattle.words.proofs.Walk.{times_le, walk_on, walk_cut, walk_end}
+use Rattle.words.proofs.times.Given as goal
+
+abbrev pub invariant-loop-i : goal.invariant-loop-i
+invariant-loop-i l =
+    (l.start ≤ l.i)
+    × (l.i ≤ length l.v)
+    × (l.n ≤ l.i)
+    × (times l.k (words (separators l.unicode) l.v) ≡ l.n + times l.k (words_from (separators l.unicode) (part l.v l.start l.i) zero (drop l.i l.v)))
+
+abbrev pub decreases-loop-i : goal.decreases-loop-i
+decreases-loop-i l = length l.v - l.i
