@@ -5,5 +5,5 @@ use Rattle.sound.proofs.other_sound.Goals as goal
 
 pub returns : goal.returns
 returns c = let row = c.row_at-n.ensures in
-    let other = rw (← row) at c.requires.1 in
+    let other = rw (← row) at c.requires.fact in
     rw (← row) (other_sound c.args.len c.args.h c.row_at-n.result other.0 other.1)

@@ -11,18 +11,18 @@ use Rattle.tag.proofs.flat_text.Goals as goal
 
 pub row_at-n-requires : goal.row_at-n-requires
 row_at-n-requires c = let a = c.args in
-    fits a.page.now a.table.now c.requires.0.0 a.h c.requires.0.1
+    fits a.page.now a.table.now c.requires.table_value.0 a.h c.requires.table_value.1
 
 pub loop-k-init : goal.loop-k-init
 loop-k-init c = let a = c.args in
-    let all = left_all a.out.now a.at _ c.requires.1 in (
-      walk a.page.now a.table.now c.requires.0.0 c.requires.0.1 c.row_at-n.ensures,
+    let all = left_all a.out.now a.at _ c.requires.h_in_bounds in (
+      walk a.page.now a.table.now c.requires.table_value.0 c.requires.table_value.1 c.row_at-n.ensures,
       left_as all (sym (after_all a.page.now a.table.now a.h)),
     )
 
 pub row_at-n-requires-in-loop-k : goal.row_at-n-requires-in-loop-k
 row_at-n-requires-in-loop-k c = let a = c.args in
-    next_fits a.page.now a.table.now c.requires.0.0 c.loop-k.invariant.0 c.loop-k-test.true
+    next_fits a.page.now a.table.now c.requires.table_value.0 c.loop-k.invariant.0 c.loop-k-test.true
 
 pub put_text-i-requires : goal.put_text-i-requires
 put_text-i-requires c = let p = c.args.page.now in
@@ -30,9 +30,9 @@ put_text-i-requires c = let p = c.args.page.now in
     let l = c.loop-k in
     let more = c.loop-k-test.true in
     let n = c.row_at-n-in-loop-k in
-    let r = next_row p ws c.requires.0.0 l.invariant.0 more n.ensures in
+    let r = next_row p ws c.requires.table_value.0 l.invariant.0 more n.ensures in
     let cut = after_next p ws l.invariant.0 more n.ensures in
-    ((r.ordered, r.inside), left_room l.invariant.1 (text_of p n.result) (after p ws c.args.h (l.k + 1)) cut)
+    record { start_le_end = (r.ordered, r.inside); n_in_bounds = left_room l.invariant.1 (text_of p n.result) (after p ws c.args.h (l.k + 1)) cut }
 
 pub loop-k-preserved : goal.loop-k-preserved
 loop-k-preserved c = let a = c.args in

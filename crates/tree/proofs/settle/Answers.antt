@@ -10,10 +10,7 @@ use Rattle.tree.specs.Held.{Rows}
 use Rattle.tree.proofs.Settling.{Left, left_none, left_row, left_lower, left_more}
 use Rattle.tree.proofs.settle.Goals as goal
 use Rattle.tree.proofs.settle.Goals.{At-loop-p}
-
-record Along (last : ℕ) (t₀ : List ℕ) (inner : ℕ) (t₁ : List ℕ) (p : ℕ) : Type 0 where
-  size : length t₁ ≡ length t₀
-  left : (t hd : List ℕ) (ns : List Node) (hs : List ℕ) → Rows t₀ t hd ns hs inner → Left last t₁ t hd p ns hs
+use Rattle.tree.proofs.settle.Invariants.{Along}
 
 pub loop-p-init : goal.loop-p-init
 loop-p-init c = record { size = refl; left = λ t hd ns hs S. record { ms = ns; ks = hs; rows = S; rest = refl } }

@@ -10,9 +10,9 @@ use Rattle.tree.specs.Held.{Rows}
 use Rattle.tree.proofs.Settling.{Left, left_none, left_row, left_lower, left_more}
 use Rattle.tree.proofs.settle.Given as goal
 
-record Along (last : ℕ) (t₀ : List ℕ) (inner : ℕ) (t₁ : List ℕ) (p : ℕ) : Type 0 where
-  size : length t₁ ≡ length t₀
-  left : (t hd : List ℕ) (ns : List Node) (hs : List ℕ) → Rows t₀ t hd ns hs inner → Left last t₁ t hd p ns hs
+pub record Along (last : ℕ) (t₀ : List ℕ) (inner : ℕ) (t₁ : List ℕ) (p : ℕ) : Type 0 where
+  pub size : length t₁ ≡ length t₀
+  pub left : (t hd : List ℕ) (ns : List Node) (hs : List ℕ) → Rows t₀ t hd ns hs inner → Left last t₁ t hd p ns hs
 
 abbrev pub invariant-loop-p : goal.invariant-loop-p
 invariant-loop-p l = Along l.last l.initial.table l.inner l.table l.p

@@ -1,0 +1,50 @@
+-- `sound::row_sound` meets its contract: what the row says of itself and of its parent decides (`next_is`).
+use borrow.Author.Rules.{rules}
+use borrow.Author.Tests.{not-true, not-false, eq-eqb, ne_eqb}
+use native.Mathlib.Omega.{arith}
+use mathlib.Core.Path.{◌≡◌, refl, sym, ap, ◌∙◌}
+use mathlib.Core.Bool.{Bool, true, false}
+use Prim.Native.Nat.{◌+◌}
+use Rattle.rules.specs.Scan.{pick}
+use Rattle.rules.specs.Sound.{tagged, parent_at}
+use Rattle.sound.specs.Row.{next_of}
+use Rattle.sound.specs.declared.Next.TheVariants.{From, Unsound}
+use Rattle.sound.proofs.Rows.{own_of, next_is, own_parent, own_last}
+use Rattle.sound.proofs.row_sound.Goals as goal
+use Rattle.sound.proofs.row_sound.Goals.{After-under}
+
+pub returns-then-not-own_sound : goal.returns-then-not-own_sound
+returns-then-not-own_sound c = let a = c.args in
+    let row = c.row_at-n.ensures in
+    let own = own_of a.len a.table.now a.count a.h _ row c.own_sound.ensures c.if-not-own_sound.true in
+    next_is a.len a.table.now a.count a.h _ row own refl refl
+
+pub under-requires : goal.under-requires
+under-requires c = let a = c.args in
+    let n = c.row_at-n in
+    let own =
+    own_of a.len a.table.now a.count a.h n.result n.ensures c.own_sound.ensures c.if-not-own_sound.false in
+    record { h_in_bounds = (omega arith, c.requires.h_lt_count.2, own_last a.len a.table.now a.count a.h n.result own); by_index = c.requires.by_index }
+
+-- the row is right by itself
+module _ (c : After-under) where
+  decided : {b : Bool} (t : Bool) → c.under.result ≡ b → tagged c.row_at-n.result ≡ t
+      → (let a = c.args in
+      pick b (From (pick t (a.h + 1) (parent_at a.table.now a.h))) Unsound ≡ next_of a.len a.table.now a.count a.h)
+  decided t u k =
+      let a = c.args in
+      let right = c.if-not-own_sound.false in
+      let own = own_of a.len a.table.now a.count a.h _ c.row_at-n.ensures c.own_sound.ensures right in
+      next_is a.len a.table.now a.count a.h _ c.row_at-n.ensures own (sym c.under.ensures ∙ u) k
+
+pub returns-then-not-under : goal.returns-then-not-under
+returns-then-not-under c = decided (goal.at.returns-then-not-under c).After-under _ c.if-not-under.true refl
+
+pub returns-then-n-eq1 : goal.returns-then-n-eq1
+returns-then-n-eq1 c = decided (goal.at.returns-then-n-eq1 c).After-under true c.if-not-under.false (eq-eqb _ 1 c.if-n-eq1.true)
+
+pub returns : goal.returns
+returns c = let a = c.args in
+    let right = c.if-not-under.false in
+    let parent = own_parent a.len a.table.now a.count a.h c.row_at-n.result (sym c.under.ensures ∙ right) in
+    ap From parent ∙ decided (goal.at.returns c).After-under false right (ne_eqb _ 1 c.if-n-eq1.false)

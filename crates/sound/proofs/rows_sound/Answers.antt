@@ -1,0 +1,36 @@
+-- `sound::rows_sound` meets its contract: the rows below h are sound, so their parents are right and the climb for h may trust them.
+use borrow.Author.Rules.{rules}
+use native.Mathlib.Omega.{arith}
+use mathlib.Core.Path.{◌≡◌, refl, sym}
+use mathlib.Core.Bool.{true}
+use Prim.Native.Nat.{◌≤◌, ◌-◌}
+use Rattle.rules.specs.Sound.{all, row_sound}
+use Rattle.rules.proofs.Sound.{all_true, all_false, all_more, row_parent}
+use Rattle.sound.specs.Row.{Starts}
+use Rattle.sound.proofs.Rows.{next_not, next_from_lem}
+use Rattle.sound.proofs.rows_sound.Goals as goal
+
+pub loop-h-init : goal.loop-h-init
+unfolding all
+loop-h-init c = (search rules, refl, record { low = search rules; same = refl })
+
+pub row_sound-requires : goal.row_sound-requires
+row_sound-requires c = let a = c.args in
+    let l = c.loop-h in
+    let test = row_sound a.len a.table.now a.count in record { h_lt_count = (omega arith, c.requires, l.invariant.2); by_index = λ j b. row_parent a.len a.table.now a.count j (all_true test l.h j l.invariant.1 b) }
+
+pub returns-in_default : goal.returns-in_default
+returns-in_default c = let a = c.args in
+    let h = c.loop-h.h in
+    let left = next_not a.len a.table.now a.count h _ c.row_sound.ensures c.in_default.is in
+    sym (all_false (row_sound a.len a.table.now a.count) a.count h (omega arith) left)
+
+pub loop-h-preserved : goal.loop-h-preserved
+loop-h-preserved c = let a = c.args in
+    let l = c.loop-h in
+    let left = next_from_lem a.len a.table.now a.count l.h _ _ c.row_sound.ensures c.in-From.is in
+    (search rules, all_more (row_sound a.len a.table.now a.count) l.h l.invariant.1 left.0, left.1)
+
+pub returns : goal.returns
+returns c = let done : c.loop-h.h ≡ c.args.count = omega arith in
+    sym (rw done at c.loop-h.invariant.1)
