@@ -1,0 +1,15 @@
+-- `matching::check_attribute` meets its contract: by what the lookup held; a value's part of the page is compared.
+use borrow.Author.Rules.{rules}
+use mathlib.Core.Path.{◌∙◌}
+use Rattle.matching.proofs.Values.{held_absent, held_bare, held_value}
+use Rattle.matching.proofs.check_attribute.Goals as goal
+
+pub returns-in-Absent : goal.returns-in-Absent
+returns-in-Absent c = rw (held_absent _ _ _ _ c.attribute-held.ensures c.in-Absent.is)
+
+pub returns-in-Bare : goal.returns-in-Bare
+returns-in-Bare c = rw (held_bare _ _ _ _ c.attribute-held.ensures c.in-Bare.is)
+
+pub returns-in-Value : goal.returns-in-Value
+returns-in-Value c = let looked = c.attribute-held.ensures in
+    c.value_fits.ensures ∙ rw (c.part.ensures, held_value _ _ _ _ looked _ _ c.in-Value.is)

@@ -1,0 +1,13 @@
+-- `maxnodes::fill` meets its contract: `Filling` is the invariant.
+use borrow.Author.Rules.{rules}
+use Prim.Native.Nat.{◌-◌}
+use native.Mathlib.Omega.{arith}
+use lib.ListN.{length}
+use Rattle.maxnodes.proofs.Filling.{Filling, none_filled, byte_filled, all_filled}
+use Rattle.maxnodes.proofs.fill.Given as goal
+
+abbrev pub invariant-loop-i : goal.invariant-loop-i
+invariant-loop-i l = Filling l.initial.out l.out l.b l.i
+
+abbrev pub decreases-loop-i : goal.decreases-loop-i
+decreases-loop-i l = length l.initial.out - l.i

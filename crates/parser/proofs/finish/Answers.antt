@@ -1,0 +1,20 @@
+-- `parser::finish` meets its contract: the open tags are settled, then the header is written.
+use borrow.Author.Rules.{rules}
+use native.Mathlib.Omega.{arith}
+use Rattle.rules.proofs.Table.{filled_size}
+use Rattle.parser.proofs.Answering.{held_end}
+use Rattle.parser.proofs.finish.Goals as goal
+
+pub overflow_cast-last : goal.overflow_cast-last
+overflow_cast-last c = omega (arith, c.before-last.ensures, c.requires.few)
+
+pub settle-requires : goal.settle-requires
+settle-requires c = let X = c.requires in
+    record { t = X.t; hd = X.hd; ns = X.R.nodes; hs = X.R.opens; rows = X.held.rows }
+
+pub put_head-requires : goal.put_head-requires
+put_head-requires c = let F = c.requires.held.rows.filled in omega (arith, F.fits, filled_size F, c.settle.auto.table)
+
+pub returns : goal.returns
+returns c = let len = c.args.len in
+    record { words = λ t hd R H. held_end H _ len c.before-last.ensures c.settle.ensures c.put_head.ensures }
