@@ -12,7 +12,7 @@ pub slice_bounds-put_name-count : goal.slice_bounds-put_name-count
 slice_bounds-put_name-count c = let within = c.requires c.if-n-ne1.false in omega arith
 
 pub slice_bounds-put_name-start : goal.slice_bounds-put_name-start
-slice_bounds-put_name-start c = sub-put-name c
+slice_bounds-put_name-start c = let within = c.requires c.if-n-ne1.false in omega arith
 
 pub slice_bounds-put_name-end : goal.slice_bounds-put_name-end
 slice_bounds-put_name-end c = let within = c.requires c.if-n-ne1.false in omega arith
