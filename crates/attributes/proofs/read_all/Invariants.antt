@@ -1,0 +1,16 @@
+-- `attributes::read_all` meets its contract: the attributes from `start` up to i were noted.
+use borrow.Author.Rules.{rules}
+use mathlib.Core.Path.{ap, sym, ◌∙◌}
+use Prim.Native.Nat.{◌*◌, ◌-◌}
+use native.Mathlib.Omega.{arith}
+use lib.ListN.{length, length-replicate}
+use Rattle.scan.specs.Marks.{white_in}
+use Rattle.tag.proofs.Turns.{turn, none}
+use Rattle.attributes.proofs.Reading.{turn_placed, Reading, reading_none, reading_more, reading_all}
+use Rattle.attributes.proofs.read_all.Given as goal
+
+abbrev pub invariant-loop-a : goal.invariant-loop-a
+invariant-loop-a l = Reading (white_in l.t) l.page l.start l.names l.ends l.i l.out
+
+abbrev pub decreases-loop-a : goal.decreases-loop-a
+decreases-loop-a l = length l.page - l.i

@@ -1,0 +1,19 @@
+-- `records::words_at` meets its contract. The invariant: the first i numbers are read.
+use borrow.Author.Rules.{rules}
+use Prim.Native.Nat.{◌-◌}
+use native.Mathlib.Omega.{arith}
+use lib.ListN.{length}
+use Rattle.records.proofs.Several.{Stored, nothing, one_number, no_number, all_numbers}
+use Rattle.records.proofs.words_at.Goals as goal
+
+pub loop-i-init : goal.loop-i-init
+loop-i-init c = nothing _
+
+pub returns-in_default : goal.returns-in_default
+returns-in_default c = no_number c.loop-i.invariant (omega arith) c.number_before.ensures c.in_default.is
+
+pub loop-i-preserved : goal.loop-i-preserved
+loop-i-preserved c = one_number c.loop-i.invariant (omega arith) c.number_before.ensures c.in-Read.is
+
+pub returns : goal.returns
+returns c = all_numbers c.loop-i.invariant (omega arith)

@@ -1,0 +1,13 @@
+-- `records::words_at` meets its contract. The invariant: the first i numbers are read.
+use borrow.Author.Rules.{rules}
+use Prim.Native.Nat.{◌-◌}
+use native.Mathlib.Omega.{arith}
+use lib.ListN.{length}
+use Rattle.records.proofs.Several.{Stored, nothing, one_number, no_number, all_numbers}
+use Rattle.records.proofs.words_at.Given as goal
+
+abbrev pub invariant-loop-i : goal.invariant-loop-i
+invariant-loop-i l = Stored l.s l.at l.initial.words l.words l.place l.i
+
+abbrev pub decreases-loop-i : goal.decreases-loop-i
+decreases-loop-i l = length l.initial.words - l.i
