@@ -1,0 +1,10 @@
+-- `queryselector::join_of` meets its contract: by the byte, and then by whether there were spaces.
+use borrow.Author.Rules.{rules}
+use borrow.Author.Tests.{ne_eqb, lt-ltb, le-ltb}
+use Rattle.queryselector.proofs.join_of.Goals as goal
+
+pub returns-in-44 : goal.returns-in-44
+returns-in-44 c = rw c.in-44.is
+
+pub returns-in-62 : goal.returns-in-62
+returns-in-62 c = rw c.in-62.is
