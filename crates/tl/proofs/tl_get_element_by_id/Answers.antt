@@ -1,0 +1,7 @@
+-- `tl::tl_get_element_by_id` meets its contract: what the call answers, in numbers.
+use borrow.Author.Rules.{rules}
+use mathlib.Core.Path.{◌∙◌}
+use Rattle.tl.proofs.tl_get_element_by_id.Goals as goal
+
+pub returns : goal.returns
+returns c = c.found.ensures ∙ rw (c.get_element_by_id.ensures, c.manner_of-way.ensures)
