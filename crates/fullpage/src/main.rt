@@ -9,6 +9,8 @@ ghost use Rattle.rules.specs.Buffers.{Wrote};
 ghost use Rattle.fullpage.specs.Asked.{ending, asked, answer_text};
 
 use decimal::Number;
+use std::io;
+use std::io::Print;
 
 // The longest page.
 const LIMIT: u32 = 65536;
@@ -65,10 +67,10 @@ fn answer(s: &[u8], out: &mut [u8]) -> usize
 }
 
 // Seven bytes are refused whatever follows them, so no more are read.
-fn main() {
+fn main(rt: HostRuntime) -> io::Result<()> {
     let mut input = [0u8; 7];
     let mut page = [0u8; 65536];
-    let k = io::read_full(0, &mut input);
+    let k = input::read_full(&mut rt.stdin(), &mut input)?;
     let n = answer(&input[..k], &mut page);
-    io::write_all(1, &page[..n]);
+    rt.write_all(&page[..n])
 }

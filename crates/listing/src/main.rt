@@ -5,6 +5,8 @@
 ghost use Rattle.listing.specs.Lists.{Lists};
 
 use rules::Counted;
+use std::io;
+use std::io::Print;
 
 // Reads the page into the table, and writes what is printed of it into `out`.
 fn list(page: &[u8], table: &mut [u32], out: &mut [u8]) -> Counted
@@ -17,14 +19,14 @@ fn list(page: &[u8], table: &mut [u32], out: &mut [u8]) -> Counted
 // A page of 65,537 bytes is too long, whatever follows them. The table has a header of 8 words and 1,819 rows of 9.
 // A listing has at most 129,222 bytes, so it is never refused for lack of room: a first line of 21, `nodes 1819 version 5`;
 // 1,819 lines of 35 without the names, `1818 comment 1817 65535 65536 1818`; and the names, which lie apart in the page.
-fn main() {
+fn main(rt: HostRuntime) -> io::Result<()> {
     let mut page = [0u8; 65537];
     let mut table = [0u32; 16379];
     let mut out = [0u8; 129222];
-    let n = io::read_full(0, &mut page);
+    let n = input::read_full(&mut rt.stdin(), &mut page)?;
     let r = list(&page[..n], &mut table, &mut out);
     let Counted::Count(k) = r else {
-        return;
+        return Ok(());
     };
-    io::write_all(1, &out[..k]);
+    rt.write_all(&out[..k])
 }

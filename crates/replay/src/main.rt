@@ -32,6 +32,8 @@ ghost use Rattle.replay.specs.Printed.{Prints, PrintsBoth};
 ghost use Rattle.replay.specs.declared.Lent.TheVariants.{Parts};
 
 use records::{Head, Place, Record};
+use std::io;
+use std::io::Print;
 
 // The most handles of a list, and the most ends of names and of texts.
 const MOST: usize = 256;
@@ -452,18 +454,19 @@ fn answer(
 // ---- the program
 
 // Writes a line, and answers whether it was one.
-fn write_line(out: &[u8], line: Place) -> bool {
+fn write_line(rt: &HostRuntime, out: &[u8], line: Place) -> bool {
     let Place::To(end) = line else {
         return false;
     };
     if out.len() < end {
         return false;
     }
-    io::write_all(1, &out[..end])
+    rt.write_all(&out[..end]).is_ok()
 }
 
 // Answers the record at the place, where b bytes of the page and w words of the table are lent.
 fn answer_at(
+    rt: &HostRuntime,
     input: &[u8],
     at: usize,
     b: usize,
@@ -489,7 +492,7 @@ fn answer_at(
     };
     let own = &mut table[..size];
     let line = answer(h, body, &page[..bytes], own, text, words, out);
-    if write_line(out, line) {
+    if write_line(rt, out, line) {
         return Step::To(next, bytes, size);
     }
     Step::Bad
@@ -497,6 +500,7 @@ fn answer_at(
 
 // Answers one record after the other, until the input ends or something stands there that is not a record.
 fn replay(
+    rt: &HostRuntime,
     input: &[u8],
     page: &mut [u8],
     table: &mut [u32],
@@ -509,7 +513,7 @@ fn replay(
     let mut b = 0;
     let mut w = 0;
     while at < input.len() {
-        let step = answer_at(input, at, b, w, page, table, text, words, out);
+        let step = answer_at(rt, input, at, b, w, page, table, text, words, out);
         let Step::To(next, bytes, size) = step else {
             return Ended::Bad;
         };
@@ -545,15 +549,16 @@ fn line_buffer() -> [u8; 263696]
 }
 
 // The table has a header of 8 words, 1,819 rows of 9, and 5 words after them.
-fn main() {
+fn main(rt: HostRuntime) -> io::Result<()> {
     let mut input = input_buffer();
     let mut page = page_buffer();
     let mut table = [0u32; 16384];
     let mut text = page_buffer();
     let mut words = [0u32; 4096];
     let mut out = line_buffer();
-    let n = io::read_full(0, &mut input);
+    let n = input::read_full(&mut rt.stdin(), &mut input)?;
     let ended = replay(
+        &rt,
         &input[..n],
         &mut page,
         &mut table,
@@ -562,10 +567,7 @@ fn main() {
         &mut out,
     );
     let Ended::Answered(count) = ended else {
-        io::write_all(1, b"bad record\n");
-        return;
+        return rt.write_all(b"bad record\n");
     };
-    io::write_all(1, b"records ");
-    io::print_decimal(1, count as u64);
-    io::write_all(1, b"\n");
+    println!(rt; "records {count}")
 }
