@@ -1,0 +1,16 @@
+-- `replay::repeat` meets its contract. The invariant: the text is written i times.
+use borrow.Author.Rules.{rules}
+use Prim.Native.Nat.{◌≤◌, ◌-◌}
+use native.Mathlib.Omega.{arith}
+use mathlib.Core.Path.{◌≡◌}
+use Rattle.lines.specs.Writes.{Writes}
+use Rattle.lines.proofs.Laws.{none, same_size}
+use Rattle.replay.specs.Lending.{repeated}
+use Rattle.replay.proofs.Writing.{repeated_none, then_again}
+use Rattle.replay.proofs.repeat.Given as goal
+
+abbrev pub invariant-loop-i : goal.invariant-loop-i
+invariant-loop-i l = (l.i ≤ l.times) × Writes l.initial.out 0 (repeated l.i l.text) l.out l.at
+
+abbrev pub decreases-loop-i : goal.decreases-loop-i
+decreases-loop-i l = l.times - l.i
