@@ -1,6 +1,6 @@
 -- Two given bytes at a place of a page: a comparison of the two bytes there, and a test of each, say the same.
 use mathlib.Core.Path.{◌≡◌, sym}
-use mathlib.Core.Bool.{Bool, false, ◌&&◌, and-true, and-false}
+use mathlib.Core.Bool.{false, ◌&&◌, and-true, and-false}
 use mathlib.Core.List.{List, [], ◌∷◌}
 use Prim.Native.Nat.{ℕ, suc, ◌+◌, ◌-◌, ◌≤◌, ◌<◌}
 use native.Mathlib.Omega.{arith}

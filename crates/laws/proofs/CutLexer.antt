@@ -11,7 +11,7 @@ use lib.Seq.{take-length, take-take, drop-cons}
 use lib.Dec.{eqb, ltb, leb}
 use borrow.Author.Tests.{lt-ltb, le-ltb, ltb-false, le-leb, leb-true, leb-false, eqb-true, ne_eqb}
 use Rattle.rules.specs.Bytes.{is_ident, other, is}
-use Rattle.rules.specs.Scan.{pick, span, skip, here, pass, part, same}
+use Rattle.rules.specs.Scan.{pick, span, skip, here, pass, part}
 use Rattle.rules.specs.Attributes.{attributes_end}
 use Rattle.rules.specs.declared.Item.{Item}
 use Rattle.rules.specs.declared.Item.TheVariants.{Text, Close, Comment, Doctype, Tag, Nothing}

@@ -13,7 +13,7 @@ use borrow.Author.Tests.{eqb-true, eq-eqb, ne_eqb}
 use Rattle.rules.specs.Scan.{pick, part, same}
 use Rattle.rules.specs.declared.Item.{Item}
 use Rattle.rules.specs.declared.Item.TheVariants.{Text, Close, Comment, Doctype, Tag, Nothing}
-use Rattle.rules.specs.Lexer.{next, item_at}
+use Rattle.rules.specs.Lexer.{item_at}
 use Rattle.rules.specs.declared.Node.{Node}
 use Rattle.rules.specs.Reader.{node, Reading, no_node, parent_of, leaf, tag_node, closed, settled, ended_by, close_into, put, step, steps, begin, with_last, read}
 use Rattle.rules.proofs.Pick.{cases}

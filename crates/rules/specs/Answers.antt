@@ -2,7 +2,7 @@
 use Rattle.std.specs.Prelude.{ℕ, suc, ◌*◌, Bool, List, [], ◌∷◌, ltb, length, replicate}
 use Rattle.std.proofs.Math.Option.{Option, none, some}
 use Rattle.rules.specs.Scan.{pick}
-use Rattle.rules.specs.Reader.{Reading, read}
+use Rattle.rules.specs.Reader.{read}
 use Rattle.rules.specs.Table.{row_at, head_of, filled, node_at}
 use Rattle.rules.specs.Sound.{last_at}
 use Rattle.rules.specs.Lookup.{lookup}

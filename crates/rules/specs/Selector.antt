@@ -1,5 +1,5 @@
 -- The selector reader: one simple selector at a place of the selector's bytes. Only space is skipped.
-use Rattle.std.specs.Prelude.{ℕ, suc, Bool, true, false, ◌||◌, List, get_or}
+use Rattle.std.specs.Prelude.{ℕ, suc, Bool, ◌||◌, List, get_or}
 use Rattle.rules.specs.Bytes.{is_ident, is_quote, is}
 use Rattle.rules.specs.Scan.{pick, skip, here}
 use Rattle.rules.specs.declared.Span.{Span}

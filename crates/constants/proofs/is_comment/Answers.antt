@@ -1,5 +1,4 @@
 -- `constants::is_comment` meets its contract: two bytes are left and are compared with `--`, or the second is missing.
-use borrow.Author.Rules.{rules}
 use mathlib.Core.Path.{◌∙◌}
 use native.Mathlib.Omega.{arith}
 use Rattle.constants.proofs.Pairs.{pair_same, pair_short}

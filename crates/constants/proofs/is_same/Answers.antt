@@ -1,9 +1,5 @@
 -- `constants::is_same` meets its contract: the lists agree where they agree from i on.
-use mathlib.Core.Path.{◌≡◌, refl}
-use Prim.Native.Nat.{◌-◌}
-use native.Mathlib.Omega.{arith}
-use lib.ListN.{length, drop}
-use Rattle.rules.specs.Scan.{agree}
+use mathlib.Core.Path.{refl}
 use Rattle.rules.proofs.Names.{agree_again, agree_stopped, agree_ended, agree_uneven}
 use Rattle.constants.proofs.is_same.Goals as goal
 

@@ -1,11 +1,4 @@
 -- `constants::matches_case_insensitive` meets its contract: the lists agree where they agree from i on.
-use mathlib.Core.Path.{◌≡◌, refl}
-use Prim.Native.Nat.{◌-◌}
-use native.Mathlib.Omega.{arith}
-use borrow.Author.Rules.{rules}
-use lib.ListN.{length, drop}
-use Rattle.rules.specs.Scan.{agree}
-use Rattle.rules.specs.Lexer.{lower}
 use Rattle.rules.proofs.Names.{agree_again, agree_stopped, agree_ended, agree_uneven}
 use Rattle.constants.proofs.matches_case_insensitive.Goals as goal
 

@@ -1,5 +1,4 @@
 -- `constants::to_lower` meets its contract: by the tests that led to each return.
-use borrow.Author.Rules.{rules}
 use borrow.Author.Tests.{le-leb, lt-leb}
 use Rattle.constants.proofs.to_lower.Goals as goal
 

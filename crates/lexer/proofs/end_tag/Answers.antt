@@ -1,5 +1,4 @@
 -- `lexer::end_tag` meets its contract: by what was expected.
-use borrow.Author.Rules.{rules}
 use Rattle.rules.proofs.Places.{was_next, was_other}
 use Rattle.lexer.proofs.end_tag.Goals as goal
 

@@ -1,5 +1,4 @@
 -- `lexer::onward` meets its contract: by the test that led to each return.
-use borrow.Author.Rules.{rules}
 use Rattle.lexer.proofs.onward.Goals as goal
 
 pub returns-then-closing_at : goal.returns-then-closing_at

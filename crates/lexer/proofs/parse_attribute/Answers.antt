@@ -1,5 +1,4 @@
 -- `lexer::parse_attribute` meets its contract: what follows goes by the value.
-use borrow.Author.Rules.{rules}
 use mathlib.Core.Path.{sym, ◌∙◌}
 use Rattle.lexer.proofs.Attributes.{next_missing, next_given, attribute_is}
 use Rattle.lexer.proofs.parse_attribute.Goals as goal

@@ -1,10 +1,7 @@
 -- `lexer::parse_attributes` meets its contract: the attributes from `from` end where those from i do.
-use borrow.Author.Rules.{rules}
-use mathlib.Core.Path.{◌≡◌, sym, ◌∙◌}
-use Prim.Native.Nat.{◌-◌, ◌≤◌}
+use mathlib.Core.Path.{sym, ◌∙◌}
 use native.Mathlib.Omega.{arith}
-use lib.ListN.{length}
-use Rattle.rules.specs.Attributes.{not_closing, attributes_end}
+use Rattle.rules.specs.Attributes.{not_closing}
 use Rattle.rules.proofs.Places.{Read, here_false, was_byte, was_end}
 use Rattle.scan.specs.Marks.{white_in}
 use Rattle.lexer.proofs.Attributes.{Further, not_closing_lem, attributes_stop, attributes_more}

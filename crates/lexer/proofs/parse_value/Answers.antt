@@ -1,5 +1,4 @@
 -- `lexer::parse_value` meets its contract: by what was expected and read.
-use borrow.Author.Rules.{rules}
 use native.Mathlib.Omega.{arith}
 use Rattle.rules.proofs.Places.{Read, Stood, was_byte, was_end, was_next, was_other}
 use Rattle.lexer.proofs.Attributes.{value_end_lem, value_quoted, value_bare}

@@ -1,5 +1,4 @@
 -- `lexer::read_doctype` meets its contract: by the name that was read.
-use borrow.Author.Rules.{rules}
 use Prim.Native.Nat.{◌≤◌}
 use lib.ListN.{length}
 use Rattle.rules.specs.Bytes.{is_ident}

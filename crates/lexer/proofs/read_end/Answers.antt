@@ -1,5 +1,4 @@
 -- `lexer::read_end` meets its contract: the two scans, one after the other.
-use borrow.Author.Rules.{rules}
 use Rattle.rules.specs.Lexer.{closing}
 use Rattle.lexer.proofs.read_end.Goals as goal
 

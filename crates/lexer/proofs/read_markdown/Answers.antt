@@ -1,5 +1,4 @@
 -- `lexer::read_markdown` meets its contract: by the test for `--`.
-use borrow.Author.Rules.{rules}
 use Rattle.lexer.proofs.Markup.{bang_comment, bang_other}
 use Rattle.lexer.proofs.read_markdown.Goals as goal
 

@@ -1,10 +1,5 @@
 -- `lexer::skip_comment_with_start` meets its contract: the search from `at` is the search from i.
-use borrow.Author.Rules.{rules}
-use mathlib.Core.Path.{◌≡◌, refl}
-use Prim.Native.Nat.{◌-◌}
-use native.Mathlib.Omega.{arith}
-use lib.ListN.{length}
-use Rattle.lexer.proofs.Comment.{searched, comment_ends, comment_three, comment_one, comment_none}
+use Rattle.lexer.proofs.Comment.{comment_ends, comment_three, comment_one, comment_none}
 use Rattle.lexer.proofs.skip_comment_with_start.Goals as goal
 
 pub returns-then-is_at : goal.returns-then-is_at

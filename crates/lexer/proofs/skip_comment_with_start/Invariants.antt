@@ -1,10 +1,8 @@
 -- `lexer::skip_comment_with_start` meets its contract: the search from `at` is the search from i.
-use borrow.Author.Rules.{rules}
-use mathlib.Core.Path.{◌≡◌, refl}
+use mathlib.Core.Path.{◌≡◌}
 use Prim.Native.Nat.{◌-◌}
-use native.Mathlib.Omega.{arith}
 use lib.ListN.{length}
-use Rattle.lexer.proofs.Comment.{searched, comment_ends, comment_three, comment_one, comment_none}
+use Rattle.lexer.proofs.Comment.{searched}
 use Rattle.lexer.proofs.skip_comment_with_start.Given as goal
 
 abbrev pub invariant-loop-i : goal.invariant-loop-i

@@ -1,5 +1,4 @@
 -- `lines::answer` meets its contract: each of the two answers has its text.
-use borrow.Author.Rules.{rules}
 use Rattle.lines.proofs.answer.Goals as goal
 
 pub listing-requires : goal.listing-requires

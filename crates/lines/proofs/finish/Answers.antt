@@ -1,5 +1,4 @@
 -- `lines::finish` meets its contract: the answer by the test, and zeros where it was refused.
-use borrow.Author.Rules.{rules}
 use mathlib.Core.Path.{refl}
 use borrow.Author.Tests.{lt-ltb, le-ltb}
 use lib.ListN.{length}

@@ -1,5 +1,4 @@
 -- `lines::listing` meets its contract: the lines are written, and then they are counted.
-use borrow.Author.Rules.{rules}
 use Rattle.lines.proofs.Endings.{printed}
 use Rattle.lines.proofs.listing.Goals as goal
 

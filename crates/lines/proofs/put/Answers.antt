@@ -1,10 +1,7 @@
 -- `lines::put` meets its contract. The invariant: the first i bytes of the text are written.
 use borrow.Author.Rules.{rules}
-use Prim.Native.Nat.{◌≤◌, ◌-◌}
 use native.Mathlib.Omega.{arith}
-use lib.ListN.{length, take}
 use lib.Seq.{take_all}
-use Rattle.lines.specs.Writes.{Writes}
 use Rattle.lines.proofs.Laws.{none, same_size, then_byte}
 use Rattle.lines.proofs.put.Goals as goal
 

@@ -1,5 +1,4 @@
 -- `lines::put_byte` meets its contract: the byte is stored, or it finds no room.
-use borrow.Author.Rules.{rules}
 use native.Mathlib.Omega.{arith}
 use Rattle.lines.proofs.Laws.{full}
 use Rattle.lines.proofs.put_byte.Goals as goal

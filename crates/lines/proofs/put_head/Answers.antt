@@ -1,5 +1,4 @@
 -- `lines::put_head` meets its contract: its texts one after the other.
-use borrow.Author.Rules.{rules}
 use Rattle.lines.specs.Lines.{head_line}
 use Rattle.lines.proofs.Laws.{then}
 use Rattle.lines.proofs.put_head.Goals as goal

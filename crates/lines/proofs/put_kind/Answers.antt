@@ -1,5 +1,4 @@
 -- `lines::put_kind` meets its contract: the name by the two tests.
-use borrow.Author.Rules.{rules}
 use borrow.Author.Tests.{eq-eqb, ne_eqb}
 use Rattle.lines.proofs.put_kind.Goals as goal
 

@@ -1,5 +1,4 @@
 -- `lines::put_line` meets its contract: its texts one after the other.
-use borrow.Author.Rules.{rules}
 use Rattle.lines.specs.Lines.{node_line}
 use Rattle.lines.proofs.Laws.{then}
 use Rattle.lines.proofs.put_line.Goals as goal

@@ -1,18 +1,10 @@
 -- `lines::put_listing` meets its contract. The invariant: after the head line stand the lines of the first h rows.
-use borrow.Author.Rules.{rules}
 use Prim.Native.Nat.{ℕ, ◌≤◌, ◌-◌}
-use native.Mathlib.Omega.{arith}
-use mathlib.Core.Path.{◌≡◌}
 use mathlib.Core.List.{List}
-use lib.ListN.{length}
 use Rattle.rules.specs.Lists.{from, each}
 use Rattle.rules.specs.Table.{node_at}
-use Rattle.rules.specs.Sound.{count_of}
-use Rattle.rules.proofs.Sound.{sound_fits}
-use Rattle.lines.specs.Lines.{node_line, listing_text}
+use Rattle.lines.specs.Lines.{node_line}
 use Rattle.lines.specs.Writes.{Writes}
-use Rattle.lines.proofs.Laws.{none, then, same_size}
-use Rattle.lines.proofs.Rows.{then_row, row_named}
 use Rattle.lines.proofs.put_listing.Given as goal
 
 -- the line of row h

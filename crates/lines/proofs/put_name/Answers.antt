@@ -1,5 +1,4 @@
 -- `lines::put_name` meets its contract: nothing for an empty name, else a space and the name.
-use borrow.Author.Rules.{rules}
 use Rattle.lines.proofs.Laws.{no_name, some_name}
 use Rattle.lines.proofs.put_name.Goals as goal
 

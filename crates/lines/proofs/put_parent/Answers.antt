@@ -1,5 +1,4 @@
 -- `lines::put_parent` meets its contract: the text by the test.
-use borrow.Author.Rules.{rules}
 use borrow.Author.Tests.{eq-eqb, ne_eqb}
 use Rattle.lines.proofs.put_parent.Goals as goal
 

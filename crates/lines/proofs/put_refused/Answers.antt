@@ -1,5 +1,4 @@
 -- `lines::put_refused` meets its contract: its texts one after the other.
-use borrow.Author.Rules.{rules}
 use Rattle.lines.specs.Lines.{refused_text}
 use Rattle.lines.proofs.Laws.{then}
 use Rattle.lines.proofs.put_refused.Goals as goal

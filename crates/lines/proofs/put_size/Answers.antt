@@ -1,5 +1,4 @@
 -- `lines::put_size` meets its contract: a space, then the digits.
-use borrow.Author.Rules.{rules}
 use Rattle.lines.proofs.Laws.{then}
 use Rattle.lines.proofs.put_size.Goals as goal
 

@@ -1,5 +1,4 @@
 -- `lines::put_tag` meets its contract: nothing for another node, else the name, which lies within the page.
-use borrow.Author.Rules.{rules}
 use borrow.Author.Tests.{eq-eqb, ne_eqb}
 use native.Mathlib.Omega.{arith}
 use Rattle.lines.proofs.Laws.{none}

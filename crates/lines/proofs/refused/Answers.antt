@@ -1,5 +1,4 @@
 -- `lines::refused` meets its contract: the line is written, and then it is counted.
-use borrow.Author.Rules.{rules}
 use Rattle.lines.proofs.Endings.{printed}
 use Rattle.lines.proofs.refused.Goals as goal
 

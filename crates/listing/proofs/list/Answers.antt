@@ -1,5 +1,4 @@
 -- `listing::list` meets its contract: an accepted page leaves a sound table, which is all that the lines ask.
-use borrow.Author.Rules.{rules}
 use mathlib.Core.Path.{sym, ◌∙◌}
 use Rattle.rules.specs.Bytes.{is_white}
 use Rattle.rules.specs.Names.{is_void}

@@ -1,9 +1,6 @@
 -- `maxnodes::fill` meets its contract: `Filling` is the invariant.
-use borrow.Author.Rules.{rules}
-use Prim.Native.Nat.{◌-◌}
 use native.Mathlib.Omega.{arith}
-use lib.ListN.{length}
-use Rattle.maxnodes.proofs.Filling.{Filling, none_filled, byte_filled, all_filled}
+use Rattle.maxnodes.proofs.Filling.{none_filled, byte_filled, all_filled}
 use Rattle.maxnodes.proofs.fill.Goals as goal
 
 pub loop-i-init : goal.loop-i-init

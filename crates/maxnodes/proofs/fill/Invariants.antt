@@ -1,9 +1,7 @@
 -- `maxnodes::fill` meets its contract: `Filling` is the invariant.
-use borrow.Author.Rules.{rules}
 use Prim.Native.Nat.{◌-◌}
-use native.Mathlib.Omega.{arith}
 use lib.ListN.{length}
-use Rattle.maxnodes.proofs.Filling.{Filling, none_filled, byte_filled, all_filled}
+use Rattle.maxnodes.proofs.Filling.{Filling}
 use Rattle.maxnodes.proofs.fill.Given as goal
 
 abbrev pub invariant-loop-i : goal.invariant-loop-i

@@ -1,5 +1,4 @@
 -- `parser::finish` meets its contract: the open tags are settled, then the header is written.
-use borrow.Author.Rules.{rules}
 use native.Mathlib.Omega.{arith}
 use Rattle.rules.proofs.Table.{filled_size}
 use Rattle.parser.proofs.Answering.{held_end}

@@ -1,5 +1,4 @@
 -- `parser::parse` meets its contract: the refusals in order, then the reading of the page from its beginning.
-use borrow.Author.Rules.{rules}
 use mathlib.Core.Path.{refl}
 use borrow.Author.Tests.{not-true, not-false}
 use Rattle.parser.proofs.Answering.{reads_begin, holds_read, parses_long, parses_short, parses_full, parses_read, parses_white}

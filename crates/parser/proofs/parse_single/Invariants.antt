@@ -1,10 +1,6 @@
 -- `parser::parse_single` meets its contract: whatever reading was held at first, what is held now has k steps left of it.
-use borrow.Author.Rules.{rules}
-use native.Mathlib.Omega.{arith}
-use borrow.Author.Tests.{not-true, not-false}
 use Rattle.scan.specs.Marks.{white_in}
-use Rattle.parser.proofs.Readings.{item_fits, room_of, inner_of}
-use Rattle.parser.proofs.Running.{Along, along_begin, along_on, run_ended, run_last, run_full}
+use Rattle.parser.proofs.Running.{Along}
 use Rattle.parser.proofs.parse_single.Given as goal
 
 abbrev pub invariant-loop-k : goal.invariant-loop-k

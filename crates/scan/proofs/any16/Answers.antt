@@ -1,14 +1,13 @@
 -- `scan::any16` meets its contract: as long as nothing was hit, none of the first k bytes is q; and the run goes over bytes of which
 -- none is.
-use mathlib.Core.Path.{◌≡◌, ap}
-use mathlib.Core.Bool.{false, not}
-use Prim.Native.Nat.{ℕ, ◌+◌, ◌-◌, ◌≤◌}
+use mathlib.Core.Path.{ap}
+use mathlib.Core.Bool.{not}
+use Prim.Native.Nat.{ℕ}
 use native.Mathlib.Omega.{arith}
 use lib.Dec.{eqb}
 use lib.ListN.{get_or}
 use Rattle.rules.specs.Bytes.{other}
 use Rattle.rules.proofs.Runs.{skip_over}
-use Rattle.scan.specs.Pairs.{None}
 use Rattle.scan.proofs.Pairs.{none_more}
 use Rattle.scan.proofs.any16.Goals as goal
 

@@ -1,5 +1,4 @@
 -- `scan::current_cpy` meets its contract: by the test that led to each return.
-use borrow.Author.Rules.{rules}
 use borrow.Author.Tests.{lt-ltb, le-ltb}
 use Rattle.rules.specs.Places.{current_at}
 use Rattle.scan.proofs.current_cpy.Goals as goal

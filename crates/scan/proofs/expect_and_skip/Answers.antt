@@ -1,5 +1,4 @@
 -- `scan::expect_and_skip` meets its contract: by the test that led to each return.
-use borrow.Author.Rules.{rules}
 use Rattle.rules.specs.Places.{expect_at}
 use Rattle.scan.proofs.expect_and_skip.Goals as goal
 

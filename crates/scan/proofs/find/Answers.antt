@@ -1,11 +1,5 @@
 -- `scan::find` meets its contract: the run from `at` is the run from i.
-use mathlib.Core.Path.{◌≡◌, refl, ◌∙◌}
-use Prim.Native.Nat.{◌-◌}
-use native.Mathlib.Omega.{arith}
-use borrow.Author.Rules.{rules}
-use lib.ListN.{length}
-use Rattle.rules.specs.Scan.{skip}
-use Rattle.rules.specs.Bytes.{other}
+use mathlib.Core.Path.{◌∙◌}
 use Rattle.rules.proofs.Runs.{found, ended}
 use Rattle.scan.proofs.find.Goals as goal
 

@@ -1,13 +1,9 @@
 -- `scan::find_rest` meets its contract: the run from `at` is the run from i.
-use mathlib.Core.Path.{◌≡◌, refl}
+use mathlib.Core.Path.{◌≡◌}
 use Prim.Native.Nat.{◌-◌}
-use native.Mathlib.Omega.{arith}
-use borrow.Author.Rules.{rules}
 use lib.ListN.{length}
 use Rattle.rules.specs.Scan.{skip}
 use Rattle.rules.specs.Bytes.{other}
-use Rattle.rules.proofs.Runs.{again, stopped, ended}
-use Rattle.rules.proofs.Runs.{other_hit, other_miss}
 use Rattle.scan.proofs.find_rest.Given as goal
 
 abbrev pub invariant-loop-i : goal.invariant-loop-i

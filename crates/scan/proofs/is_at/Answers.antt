@@ -1,5 +1,4 @@
 -- `scan::is_at` meets its contract: by the test that led to each return.
-use borrow.Author.Rules.{rules}
 use borrow.Author.Tests.{lt-ltb, le-ltb}
 use Rattle.scan.proofs.is_at.Goals as goal
 

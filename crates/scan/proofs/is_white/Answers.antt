@@ -1,5 +1,4 @@
 -- `scan::is_white` meets its contract: it is the table's own test.
-use borrow.Author.Rules.{rules}
 use Rattle.scan.specs.Marks.{white_in}
 use Rattle.scan.proofs.is_white.Goals as goal
 

@@ -1,5 +1,4 @@
 -- `scan::may_hold` meets its contract: where k stands, its first and last byte stand at their distance.
-use borrow.Author.Rules.{rules}
 use mathlib.Core.Path.{refl}
 use mathlib.Core.Bool.{true≢false}
 use native.Mathlib.Omega.{arith}

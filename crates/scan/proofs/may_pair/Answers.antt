@@ -1,9 +1,8 @@
 -- `scan::may_pair` meets its contract: no pair stands at the places up to i; the last 16 places overlap those passed before.
 use mathlib.Core.Bool.{true≢false}
-use Prim.Native.Nat.{◌+◌, ◌-◌}
+use Prim.Native.Nat.{◌+◌}
 use native.Mathlib.Omega.{arith}
-use borrow.Author.Rules.{rules}
-use Rattle.scan.specs.Pairs.{None, pair_at}
+use Rattle.scan.specs.Pairs.{pair_at}
 use Rattle.scan.proofs.Pairs.{none_join}
 use Rattle.scan.proofs.may_pair.Goals as goal
 

@@ -1,9 +1,7 @@
 -- `scan::pair16` meets its contract: as long as nothing was hit, no pair stands at the first j places.
 use mathlib.Core.Path.{◌≡◌}
-use mathlib.Core.Bool.{false}
-use Prim.Native.Nat.{◌+◌, ◌-◌, ◌≤◌}
 use native.Mathlib.Omega.{arith}
-use Rattle.scan.specs.Pairs.{None, pair_at}
+use Rattle.scan.specs.Pairs.{pair_at}
 use Rattle.scan.proofs.Pairs.{none_more}
 use Rattle.scan.proofs.pair16.Goals as goal
 

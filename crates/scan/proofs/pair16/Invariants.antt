@@ -2,9 +2,7 @@
 use mathlib.Core.Path.{◌≡◌}
 use mathlib.Core.Bool.{false}
 use Prim.Native.Nat.{◌+◌, ◌-◌, ◌≤◌}
-use native.Mathlib.Omega.{arith}
 use Rattle.scan.specs.Pairs.{None, pair_at}
-use Rattle.scan.proofs.Pairs.{none_more}
 use Rattle.scan.proofs.pair16.Given as goal
 
 abbrev pub invariant-loop-j : goal.invariant-loop-j

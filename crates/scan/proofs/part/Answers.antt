@@ -1,5 +1,4 @@
 -- `scan::part` meets its contract: the part up to `end`, where it is not empty, is the part up to e.
-use borrow.Author.Rules.{rules}
 use Rattle.scan.proofs.Parts.{part_clamp, part_none}
 use Rattle.scan.proofs.part.Goals as goal
 

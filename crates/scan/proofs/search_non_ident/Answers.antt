@@ -1,11 +1,4 @@
 -- `scan::search_non_ident` meets its contract: the run from `at` is the run from i.
-use mathlib.Core.Path.{◌≡◌, refl}
-use Prim.Native.Nat.{◌-◌}
-use native.Mathlib.Omega.{arith}
-use borrow.Author.Rules.{rules}
-use lib.ListN.{length}
-use Rattle.rules.specs.Scan.{skip}
-use Rattle.rules.specs.Bytes.{is_ident}
 use Rattle.rules.proofs.Runs.{again, stopped, ended, answered}
 use Rattle.scan.proofs.search_non_ident.Goals as goal
 

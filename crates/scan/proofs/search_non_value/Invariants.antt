@@ -1,13 +1,10 @@
 -- `scan::search_non_value` meets its contract: the run from `at` is the run from i.
-use mathlib.Core.Path.{◌≡◌, refl}
+use mathlib.Core.Path.{◌≡◌}
 use Prim.Native.Nat.{◌-◌}
-use native.Mathlib.Omega.{arith}
-use borrow.Author.Rules.{rules}
 use lib.ListN.{length}
 use Rattle.rules.specs.Scan.{skip}
 use Rattle.rules.specs.Attributes.{in_value}
 use Rattle.scan.specs.Marks.{white_in}
-use Rattle.rules.proofs.Runs.{again, stopped, ended, answered}
 use Rattle.scan.proofs.search_non_value.Given as goal
 
 abbrev pub invariant-loop-i : goal.invariant-loop-i

@@ -1,11 +1,4 @@
 -- `scan::skip_whitespaces` meets its contract: the run from `at` is the run from i.
-use mathlib.Core.Path.{◌≡◌, refl}
-use Prim.Native.Nat.{◌-◌}
-use native.Mathlib.Omega.{arith}
-use borrow.Author.Rules.{rules}
-use lib.ListN.{length}
-use Rattle.rules.specs.Scan.{skip}
-use Rattle.scan.specs.Marks.{white_in}
 use Rattle.rules.proofs.Runs.{again, stopped, ended, answered}
 use Rattle.scan.proofs.skip_whitespaces.Goals as goal
 

@@ -1,9 +1,7 @@
 -- `table::clear_bytes` meets its contract: `Filling` is the invariant.
-use borrow.Author.Rules.{rules}
-use native.Mathlib.Omega.{arith}
 use Prim.Native.Nat.{◌-◌}
 use lib.ListN.{length}
-use Rattle.table.proofs.Filling.{Filling, one_more, all_filled}
+use Rattle.table.proofs.Filling.{Filling}
 use Rattle.table.proofs.clear_bytes.Given as goal
 
 abbrev pub invariant-loop-i : goal.invariant-loop-i

@@ -1,9 +1,6 @@
 -- `table::clear_places` meets its contract: `Filling` is the invariant.
-use borrow.Author.Rules.{rules}
 use native.Mathlib.Omega.{arith}
-use Prim.Native.Nat.{◌-◌}
-use lib.ListN.{length}
-use Rattle.table.proofs.Filling.{Filling, one_more, all_filled}
+use Rattle.table.proofs.Filling.{one_more, all_filled}
 use Rattle.table.proofs.clear_places.Goals as goal
 
 pub loop-i-preserved : goal.loop-i-preserved

@@ -1,5 +1,4 @@
 -- `table::close_in` meets its contract: a row of a known length is its words one by one, and the two stores compute on those.
-use borrow.Author.Rules.{rules}
 use mathlib.Core.Path.{ap}
 use mathlib.Core.List.{List}
 use Prim.Native.Nat.{ℕ}

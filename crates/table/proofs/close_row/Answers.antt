@@ -1,5 +1,4 @@
 -- `table::close_row` meets its contract: what `close_in` says of the row's part, said of the table.
-use borrow.Author.Rules.{rules}
 use Rattle.rules.specs.Reader.{closed}
 use Rattle.rules.specs.declared.Node.{Node}
 use Rattle.table.proofs.Rows.{row_put}

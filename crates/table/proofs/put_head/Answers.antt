@@ -1,5 +1,4 @@
 -- `table::put_head` meets its contract: the part that `write_head` was lent starts at the front, so it is back in front of the rest.
-use borrow.Author.Rules.{rules}
 use Rattle.table.proofs.put_head.Goals as goal
 
 pub returns : goal.returns

@@ -1,5 +1,4 @@
 -- `table::put_row` meets its contract: what `write_row` says of the row's part, said of the table.
-use borrow.Author.Rules.{rules}
 use Rattle.table.proofs.Rows.{row_put}
 use Rattle.table.proofs.put_row.Goals as goal
 

@@ -1,5 +1,4 @@
 -- `table::row_at` meets its contract: what `read_row` says of the row's part, said of the table.
-use borrow.Author.Rules.{rules}
 use mathlib.Core.Path.{◌∙◌}
 use Rattle.table.proofs.Rows.{row_node}
 use Rattle.table.proofs.row_at.Goals as goal

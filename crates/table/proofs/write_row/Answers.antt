@@ -1,6 +1,5 @@
 -- `table::write_row` meets its contract: as many stores as the row has words leave nothing of the old ones.
 -- The first few stores `search` sees to be in range; past those the length is read off under all the stores before.
-use borrow.Author.Rules.{rules}
 use native.Mathlib.Omega.{arith}
 use lib.ListN.{length-set}
 use Rattle.rules.specs.Table.{words_of}

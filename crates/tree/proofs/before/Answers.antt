@@ -1,6 +1,4 @@
 -- `tree::before` meets its contract: by the test for 0.
-use borrow.Author.Rules.{rules}
-use native.Mathlib.Omega.{arith}
 use Rattle.tree.proofs.before.Goals as goal
 
 pub returns-then-n-eq0 : goal.returns-then-n-eq0

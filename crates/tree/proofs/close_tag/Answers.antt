@@ -1,5 +1,4 @@
 -- `tree::close_tag` meets its contract: by the innermost open tag and its name.
-use borrow.Author.Rules.{rules}
 use mathlib.Core.Path.{refl}
 use Prim.Native.Nat.{◌<◌}
 use native.Mathlib.Omega.{arith}

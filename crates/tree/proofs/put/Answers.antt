@@ -1,5 +1,4 @@
 -- `tree::put` meets its contract: by the item.
-use borrow.Author.Rules.{rules}
 use mathlib.Core.Path.{sym, ap}
 use native.Mathlib.Omega.{arith}
 use Rattle.rules.specs.Names.{is_void}

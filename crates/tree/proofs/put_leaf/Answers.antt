@@ -1,5 +1,4 @@
 -- `tree::put_leaf` meets its contract: the row was written, or the reading has more nodes than there are rows.
-use borrow.Author.Rules.{rules}
 use Rattle.rules.specs.Reader.{leaf}
 use Rattle.tree.proofs.Steps.{step_done, step_full, held_leaf, full_next}
 use Rattle.tree.proofs.put_leaf.Goals as goal

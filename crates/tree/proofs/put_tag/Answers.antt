@@ -1,5 +1,4 @@
 -- `tree::put_tag` meets its contract: the row was written, or the reading has more nodes than there are rows.
-use borrow.Author.Rules.{rules}
 use mathlib.Core.Bool.{◌||◌}
 use Rattle.rules.specs.Scan.{part}
 use Rattle.rules.specs.Names.{is_void}

@@ -1,5 +1,4 @@
 -- `tree::register_tag` meets its contract: by the test for room.
-use borrow.Author.Rules.{rules}
 use mathlib.Core.Bool.{true≢false, false≢true}
 use Rattle.tree.proofs.register_tag.Goals as goal
 

@@ -1,16 +1,10 @@
 -- `tree::settle` meets its contract: whatever tags were open at first, some of them are left.
 use borrow.Author.Rules.{rules}
-use mathlib.Core.Path.{◌≡◌, refl}
-use mathlib.Core.List.{List}
-use Prim.Native.Nat.{ℕ}
+use mathlib.Core.Path.{refl}
 use native.Mathlib.Omega.{arith}
-use lib.ListN.{length}
-use Rattle.rules.specs.declared.Node.{Node}
-use Rattle.tree.specs.Held.{Rows}
 use Rattle.tree.proofs.Settling.{Left, left_none, left_row, left_lower, left_more}
 use Rattle.tree.proofs.settle.Goals as goal
 use Rattle.tree.proofs.settle.Goals.{At-loop-p}
-use Rattle.tree.proofs.settle.Invariants.{Along}
 
 pub loop-p-init : goal.loop-p-init
 loop-p-init c = record { size = refl; left = λ t hd ns hs S. record { ms = ns; ks = hs; rows = S; rest = refl } }

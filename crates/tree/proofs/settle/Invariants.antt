@@ -1,13 +1,11 @@
 -- `tree::settle` meets its contract: whatever tags were open at first, some of them are left.
-use borrow.Author.Rules.{rules}
-use mathlib.Core.Path.{◌≡◌, refl}
+use mathlib.Core.Path.{◌≡◌}
 use mathlib.Core.List.{List}
 use Prim.Native.Nat.{ℕ}
-use native.Mathlib.Omega.{arith}
 use lib.ListN.{length}
 use Rattle.rules.specs.declared.Node.{Node}
 use Rattle.tree.specs.Held.{Rows}
-use Rattle.tree.proofs.Settling.{Left, left_none, left_row, left_lower, left_more}
+use Rattle.tree.proofs.Settling.{Left}
 use Rattle.tree.proofs.settle.Given as goal
 
 pub record Along (last : ℕ) (t₀ : List ℕ) (inner : ℕ) (t₁ : List ℕ) (p : ℕ) : Type 0 where

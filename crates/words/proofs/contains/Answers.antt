@@ -1,10 +1,5 @@
 -- `words::contains` meets its contract: k is in v where it is in what is left from i on.
-use borrow.Author.Rules.{rules}
-use mathlib.Core.Path.{◌≡◌, refl}
-use Prim.Native.Nat.{suc, ◌-◌, ◌≤◌}
 use native.Mathlib.Omega.{arith}
-use lib.ListN.{length, drop}
-use Rattle.rules.specs.Words.{contains}
 use Rattle.words.proofs.Fits.{shorter, found, missed, none}
 use Rattle.words.proofs.contains.Goals as goal
 

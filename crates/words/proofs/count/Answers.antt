@@ -1,5 +1,4 @@
 -- `words::count` meets its contract: w is empty, or compared.
-use borrow.Author.Rules.{rules}
 use Rattle.words.proofs.Walk.{times_one, times_none}
 use Rattle.words.proofs.count.Goals as goal
 

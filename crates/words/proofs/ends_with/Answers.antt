@@ -1,5 +1,4 @@
 -- `words::ends_with` meets its contract: v is shorter than k, or its end is compared.
-use borrow.Author.Rules.{rules}
 use borrow.Author.Tests.{lt-leb}
 use mathlib.Core.Path.{◌∙◌}
 use native.Mathlib.Omega.{arith}

@@ -1,6 +1,4 @@
 -- `words::gap` meets its contract: the law `at_place`, at the tests that led to each return.
-use borrow.Author.Rules.{rules}
-use borrow.Author.Tests.{not-true, not-false}
 use mathlib.Core.Path.{refl}
 use native.Mathlib.Omega.{arith}
 use Rattle.words.specs.Separators.{separators}

@@ -1,5 +1,4 @@
 -- `words::has_word` meets its contract: by what `times` answers.
-use borrow.Author.Rules.{rules}
 use Rattle.words.proofs.has_word.Goals as goal
 
 pub returns : goal.returns

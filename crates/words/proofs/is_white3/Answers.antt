@@ -1,5 +1,4 @@
 -- `words::is_white3` meets its contract: each test that the code makes takes the other separators out.
-use borrow.Author.Rules.{rules}
 use mathlib.Core.Bool.{and-true, and-false, or-false, and_assoc}
 use borrow.Author.Tests.{ne_eqb}
 use Rattle.rules.specs.Scan.{agree}

@@ -1,5 +1,4 @@
 -- `words::starts_with` meets its contract: v is shorter than k, or its front is compared.
-use borrow.Author.Rules.{rules}
 use native.Mathlib.Omega.{arith}
 use lib.ListN.{length-take}
 use Rattle.words.proofs.Fits.{short}

@@ -1,14 +1,10 @@
 -- `words::times` meets its contract: n words before `start` are k, and from there to i stands the word so far.
-use borrow.Author.Rules.{rules}
 use mathlib.Core.Path.{◌≡◌}
 use Prim.Native.Nat.{zero, ◌+◌, ◌-◌, ◌≤◌}
-use native.Mathlib.Omega.{arith}
 use lib.ListN.{length, drop}
 use Rattle.rules.specs.Scan.{part}
 use Rattle.rules.specs.Words.{words, words_from, times}
 use Rattle.words.specs.Separators.{separators}
-use Rattle.words.proofs.Gaps.{gap_in}
-use Rattle.words.proofs.Walk.{times_le, walk_on, walk_cut, walk_end}
 use Rattle.words.proofs.times.Given as goal
 
 abbrev pub invariant-loop-i : goal.invariant-loop-i

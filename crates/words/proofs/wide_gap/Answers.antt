@@ -1,5 +1,4 @@
 -- `words::wide_gap` meets its contract: by what the tests answered.
-use borrow.Author.Rules.{rules}
 use Rattle.words.proofs.wide_gap.Goals as goal
 
 pub returns-then-is_white2 : goal.returns-then-is_white2
