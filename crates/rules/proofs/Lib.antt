@@ -15,3 +15,4 @@ pub mod Text
 pub mod Closing
 pub mod Rounds
 pub mod Examples
+pub mod Pages

@@ -1,25 +1,11 @@
 -- The checked pages of document 01 that are marked P, the refusals' examples on the pages `a` and `<p>`, and pages whose tags end in
--- each of the four ways: one table, one theorem.
-use Rattle.std.specs.Prelude.{◌≡◌, refl, List, [], ◌∷◌}
+-- each of the four ways: one table, and one theorem of it, in proofs/Pages.antt.
+use Rattle.std.specs.Prelude.{List, [], ◌∷◌}
 use Rattle.rules.specs.Ascii.{bytes}
-use Rattle.rules.specs.Questions.{Example, example, answers, said, tag_row, text_row, comment_row, range, attribute, id, query, rows, parse, own, foreign, selector}
+use Rattle.rules.specs.Questions.{Example, example, tag_row, text_row, comment_row, range, attribute, id, query, rows, parse, own, foreign, selector}
 use Rattle.rules.specs.declared.Manner.TheVariants.{Scan, Closed}
-use Rattle.rules.specs.Scan.{span, agree}
-use Rattle.rules.specs.Lists.{from, only, each}
-use Rattle.rules.specs.Names.{one_of}
-use Rattle.rules.specs.Attributes.{attribute_at, attribute_next, attributes_end}
-use Rattle.rules.specs.Lexer.{comment_end, bang, tag, closing, markup, item_at}
-use Rattle.rules.specs.Reader.{close_into, put, step, steps, with_last}
-use Rattle.rules.specs.Table.{node_at, filled}
-use Rattle.rules.specs.Sound.{all, reaching}
-use Rattle.rules.specs.Lookup.{attributes, first_of, last_of, lookup_from, answer}
-use Rattle.rules.specs.Words.{gap, words_from, times, contains}
-use Rattle.rules.specs.Selector.{operand_at, attribute_from, simple_at}
-use Rattle.rules.specs.Chain.{selector_at, chain_at, written}
-use Rattle.rules.specs.Query.{meaning}
-use Rattle.rules.specs.Answers.{parse_answer, parse_table, range_answer, attribute_answer, attribute_part, id_answer, selector_answer, selector_buffer, query_answer, query_buffer}
 
-abbrev pages : List Example
+abbrev pub pages : List Example
 pages =
     -- no nodes; one text; only the text `a `
     example (bytes "") rows []
@@ -57,8 +43,3 @@ pages =
     ∷ example (bytes "a") (own (range 0)) ((4 ∷ 0 ∷ 0 ∷ 0 ∷ []) ∷ [])
     ∷ example (bytes "<p>") (own (query (bytes "p") 0)) ((7 ∷ 0 ∷ []) ∷ [] ∷ [])
     ∷ []
-
--- the rules answer what document 01 says
-checked_pages : answers pages ≡ said pages
-unfolding span agree from only each one_of attribute_at attribute_next attributes_end comment_end bang tag closing markup item_at close_into put step steps with_last node_at filled all reaching attributes first_of last_of lookup_from answer gap words_from times contains operand_at attribute_from simple_at selector_at chain_at written meaning parse_answer parse_table range_answer attribute_answer attribute_part id_answer selector_answer selector_buffer query_answer query_buffer
-checked_pages = refl
