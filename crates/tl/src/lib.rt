@@ -1,5 +1,5 @@
-// The library for C and Rust programs: every call on numbers and slices. A call returns the refusal's number, or 0, and
-// leaves the count and the answer's values where the caller asks for them. include/tl.h declares them.
+// The library's calls on numbers and slices: a call returns the refusal's number, or 0, and leaves the count and the answer's
+// values where the caller asks for them. The crate tl_c exports each of them to C.
 
 #![tactic(auto)]
 
@@ -122,8 +122,7 @@ fn manner_of(manner: u32) -> Manner
 // ---- the calls
 
 // Reads a page into a table.
-#[unsafe(no_mangle)]
-pub extern "C" fn tl_parse(page: &[u8], table: &mut [u32], count: &mut usize) -> u32
+pub fn tl_parse(page: &[u8], table: &mut [u32], count: &mut usize) -> u32
     ensures { let p = page.now in
         let t = table.old in
         Exports (parse_answer is_white is_void p (length t)) (parse_table is_white is_void p t) result count.new table.new }
@@ -132,16 +131,14 @@ pub extern "C" fn tl_parse(page: &[u8], table: &mut [u32], count: &mut usize) ->
 }
 
 // The handles below a tag: how many, the first, the last.
-#[unsafe(no_mangle)]
-pub extern "C" fn tl_range(page: &[u8], table: &[u32], h: usize, answer: &mut [usize; 3]) -> u32
+pub fn tl_range(page: &[u8], table: &[u32], h: usize, answer: &mut [usize; 3]) -> u32
     ensures { (result ∷ answer.new) ≡ ranged_numbers (range_answer is_white page.now table.now h) }
 {
     ranged(calls::range(page, table, h), answer)
 }
 
 // What a tag holds for an attribute name: which of the three, where a value starts and ends.
-#[unsafe(no_mangle)]
-pub extern "C" fn tl_attribute(
+pub fn tl_attribute(
     page: &[u8],
     table: &[u32],
     h: usize,
@@ -155,14 +152,7 @@ pub extern "C" fn tl_attribute(
 }
 
 // The text below a tag.
-#[unsafe(no_mangle)]
-pub extern "C" fn tl_inner_text(
-    page: &[u8],
-    table: &[u32],
-    h: usize,
-    out: &mut [u8],
-    count: &mut usize,
-) -> u32
+pub fn tl_inner_text(page: &[u8], table: &[u32], h: usize, out: &mut [u8], count: &mut usize) -> u32
     ensures { let p = page.now in
         let ws = table.now in
         let b = out.old in
@@ -172,8 +162,7 @@ pub extern "C" fn tl_inner_text(
 }
 
 // The tag with an id: how many, and its handle.
-#[unsafe(no_mangle)]
-pub extern "C" fn tl_get_element_by_id(
+pub fn tl_get_element_by_id(
     page: &[u8],
     table: &[u32],
     manner: u32,
@@ -188,8 +177,7 @@ pub extern "C" fn tl_get_element_by_id(
 }
 
 // The tags with a class.
-#[unsafe(no_mangle)]
-pub extern "C" fn tl_get_elements_by_class_name(
+pub fn tl_get_elements_by_class_name(
     page: &[u8],
     table: &[u32],
     manner: u32,
@@ -212,8 +200,7 @@ pub extern "C" fn tl_get_elements_by_class_name(
 }
 
 // Reads a selector into its pieces, 6 words each.
-#[unsafe(no_mangle)]
-pub extern "C" fn tl_parse_query_selector(s: &[u8], out: &mut [u32], count: &mut usize) -> u32
+pub fn tl_parse_query_selector(s: &[u8], out: &mut [u32], count: &mut usize) -> u32
     ensures { let k = s.now in
         let b = out.old in
         Exports (selector_answer k (length b)) (selector_buffer k b) result count.new out.new }
@@ -222,8 +209,7 @@ pub extern "C" fn tl_parse_query_selector(s: &[u8], out: &mut [u32], count: &mut
 }
 
 // The nodes of the page that a selector finds.
-#[unsafe(no_mangle)]
-pub extern "C" fn tl_query_selector(
+pub fn tl_query_selector(
     page: &[u8],
     table: &[u32],
     s: &[u8],
@@ -240,8 +226,7 @@ pub extern "C" fn tl_query_selector(
 }
 
 // The nodes below a tag that a selector finds.
-#[unsafe(no_mangle)]
-pub extern "C" fn tl_query_selector_below(
+pub fn tl_query_selector_below(
     page: &[u8],
     table: &[u32],
     h: usize,
@@ -259,8 +244,7 @@ pub extern "C" fn tl_query_selector_below(
 }
 
 // What each tag of a list holds for an attribute name, three words each.
-#[unsafe(no_mangle)]
-pub extern "C" fn tl_attributes(
+pub fn tl_attributes(
     page: &[u8],
     table: &[u32],
     handles: &[u32],
@@ -280,8 +264,7 @@ pub extern "C" fn tl_attributes(
 
 // What each tag of a list holds for each of several attribute names, three words for each name. The names stand in one text, each
 // from the end of the one before up to its place in `ends`.
-#[unsafe(no_mangle)]
-pub extern "C" fn tl_attributes_for_names(
+pub fn tl_attributes_for_names(
     page: &[u8],
     table: &[u32],
     handles: &[u32],
@@ -305,8 +288,7 @@ pub extern "C" fn tl_attributes_for_names(
 }
 
 // The inner texts of a list of tags, one after the other, and where each ends.
-#[unsafe(no_mangle)]
-pub extern "C" fn tl_inner_texts(
+pub fn tl_inner_texts(
     page: &[u8],
     table: &[u32],
     handles: &[u32],
