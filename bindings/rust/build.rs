@@ -21,7 +21,7 @@ fn main() {
     let Some(found) = found else {
         eprintln!("error: there is no archive {}", archive.display());
         eprintln!();
-        eprintln!("Make it with `rt staticlib tl` in the folder of the repository, or set TL_ARCHIVE_DIR to a");
+        eprintln!("Make it with `tools/archive` in the folder of the repository, or set TL_ARCHIVE_DIR to a");
         eprintln!("folder (a whole path) that holds libtl.a.");
         exit(1);
     };

@@ -1,4 +1,4 @@
-//! Links the library under comparison, the archive that `rt staticlib tl` writes.
+//! Links the library under comparison, the archive that `tools/archive` makes.
 use std::env;
 use std::path::Path;
 

@@ -37,7 +37,7 @@
 //! costs as much as the page has nodes. [`batch`] has calls for many tags at once. What is proved are the calls
 //! of the archive; the Rust around them is tested only.
 //!
-//! `libtl.a` is made by `rt staticlib tl`, for x86-64. The crate takes it from the folder that the environment's
+//! `libtl.a` is made by `tools/archive`, for x86-64. The crate takes it from the folder that the environment's
 //! `TL_ARCHIVE_DIR` names, else from `target/staticlib` of the repository.
 
 #![deny(missing_docs)]
