@@ -4,7 +4,7 @@ use mathlib.Core.Bool.{Bool}
 use mathlib.Core.List.{List}
 use Prim.Native.Nat.{ℕ}
 use lib.ListN.{length}
-use Rattle.rules.specs.Refusals.{not_aTag}
+use Rattle.rules.specs.Refusals.{not_a_tag}
 use Rattle.rules.specs.Batch.{some, batch_answer}
 use Rattle.rules.specs.declared.Refusal.{Refusal}
 use Rattle.rules.specs.declared.Checked.TheVariants.{Fine, Refused}
@@ -14,7 +14,7 @@ use Rattle.batch.specs.Batch.{tags_checked, Tags, unless}
 
 module _ (p ws hs : List ℕ) where
   abbrev tests : Bool
-  tests = some (not_aTag ws) hs
+  tests = some (not_a_tag ws) hs
 
   pub tags_fine : tags_checked p ws hs ≡ Fine → Tags p ws hs
   tags_fine e = let a = was_fine_also p ws tests e in record { sound_table = a.0; tests = a.1 }

@@ -10,7 +10,7 @@ use lib.Seq.{drop-cons}
 use Rattle.rules.specs.Lists.{each}
 use Rattle.rules.specs.Buffers.{Wrote}
 use Rattle.rules.specs.Batch.{some}
-use Rattle.rules.specs.Refusals.{not_aTag}
+use Rattle.rules.specs.Refusals.{not_a_tag}
 use Rattle.rules.proofs.Buffers.{Left, left_room, left_more, left_none}
 use Rattle.rules.proofs.Asking.{SoundTag, sound_tag}
 use Rattle.batch.specs.Batch.{Tags}
@@ -72,4 +72,4 @@ none_at f (h ∷ hs) (suc i) l e = none_at f hs i (omega arith) (or_none (f h) (
 
 -- the handle at i is a tag's
 pub tag_at : (p ws hs : List ℕ) → Tags p ws hs → (i : ℕ) → i < length hs → SoundTag p ws (get_or hs i 0)
-tag_at p ws hs t i l = sound_tag p ws (get_or hs i 0) t.sound_table (none_at (not_aTag ws) hs i l t.tests)
+tag_at p ws hs t i l = sound_tag p ws (get_or hs i 0) t.sound_table (none_at (not_a_tag ws) hs i l t.tests)

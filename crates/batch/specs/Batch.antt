@@ -6,7 +6,7 @@ use Rattle.rules.specs.Table.{node_at}
 use Rattle.rules.specs.Sound.{count_of}
 use Rattle.rules.specs.Text.{text_at}
 use Rattle.rules.specs.Buffers.{Wrote}
-use Rattle.rules.specs.Refusals.{Sound, asking, not_aTag, filled_by}
+use Rattle.rules.specs.Refusals.{Sound, asking, not_a_tag, filled_by}
 use Rattle.rules.specs.Batch.{some, texts_found, ends_found}
 use Rattle.rules.specs.declared.Refusal.TheVariants.{NotATag, BufferTooShort}
 use Rattle.rules.specs.declared.Checked.{Checked}
@@ -18,12 +18,12 @@ use Rattle.batch.specs.declared.Put.TheVariants.{Until, Short}
 
 -- refusals 1, 3 and 4
 abbrev pub tags_checked : List ℕ → List ℕ → List ℕ → Checked
-tags_checked p ws hs = asking Refused p ws (pick (some (not_aTag ws) hs) (Refused NotATag) Fine)
+tags_checked p ws hs = asking Refused p ws (pick (some (not_a_tag ws) hs) (Refused NotATag) Fine)
 
 -- the table is sound, and each handle is a tag's
 pub record Tags (p ws hs : List ℕ) : Type 0 where
   pub sound_table : Sound p ws
-  pub tests : some (not_aTag ws) hs ≡ false
+  pub tests : some (not_a_tag ws) hs ≡ false
 
 -- refusal 7, or the count
 abbrev pub unless : Bool → ℕ → Counted

@@ -6,7 +6,7 @@ ghost use Rattle.std.specs.Prelude.{◌≡◌, true, false, not, ◌++◌, ◌+�
 ghost use Rattle.rules.specs.Bytes.{is_white};
 ghost use Rattle.rules.specs.Sound.{count_of, sound};
 ghost use Rattle.rules.specs.Text.{inner_text};
-ghost use Rattle.rules.specs.Refusals.{page_limit, not_aTag, held_numbers, filled_by};
+ghost use Rattle.rules.specs.Refusals.{page_limit, not_a_tag, held_numbers, filled_by};
 ghost use Rattle.rules.specs.Buffers.{Wrote};
 ghost use Rattle.rules.specs.Batch.{some, attributes_found, attributes_answer, attributes_buffer, names_found, names_answer, names_buffer, texts_answer, texts_buffer, ends_buffer};
 ghost use Rattle.rules.specs.Lookup.{Inside};
@@ -27,7 +27,7 @@ const FEW: usize = 4096;
 // Whether each handle is a tag's.
 fn all_tags(table: &[u32], len: usize, handles: &[u32]) -> bool
     requires { sound len table.now ≡ true }
-    ensures { result ≡ not (some (not_aTag table.now) handles.now) }
+    ensures { result ≡ not (some (not_a_tag table.now) handles.now) }
 {
     let mut i = 0;
     while i < handles.len() {

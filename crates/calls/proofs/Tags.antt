@@ -7,7 +7,7 @@ use native.Mathlib.Omega.{arith}
 use lib.ListN.{length, length-take}
 use Rattle.rules.specs.Table.{node_at, row_at, row_words}
 use Rattle.rules.specs.Lookup.{Inside, lookup, up_to}
-use Rattle.rules.specs.Refusals.{page_too_long, table_not_sound, not_aTag}
+use Rattle.rules.specs.Refusals.{page_too_long, table_not_sound, not_a_tag}
 use Rattle.rules.specs.Answers.{attribute_answer}
 use Rattle.rules.specs.declared.Node.{Node}
 use Rattle.rules.specs.declared.Held.{Held}
@@ -52,4 +52,4 @@ module _ (white : ℕ → Bool) (p ws : List ℕ) (h : ℕ) (k : List ℕ) where
   value_inside =
       cases Answers (page_too_long p) (λ t. refused_none PageTooLong)
       (λ t. cases Answers (table_not_sound p ws) (λ u. refused_none TableNotSound)
-      (λ u. cases Answers (not_aTag ws h) (λ w. refused_none NotATag) (λ w. looked_up)))
+      (λ u. cases Answers (not_a_tag ws h) (λ w. refused_none NotATag) (λ w. looked_up)))

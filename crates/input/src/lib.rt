@@ -2,14 +2,18 @@
 
 #![tactic(auto)]
 
-ghost use Rattle.std.specs.Prelude.{◌≤◌, length, IfOk};
+ghost use Rattle.std.specs.Prelude.{◌<◌, ◌≤◌, length, take, IfOk};
+ghost use Rattle.std.specs.Io.KnownBytes.{Consumes, IsAtEnd};
 
 use std::io;
 use std::io::Read;
 
-// Reads until the buffer is full or the input ends, and answers how many bytes were read.
+// Reads until the buffer is full or the input ends, and answers how many bytes were read: the next of the input, all of them where
+// they are fewer than the buffer has room for.
 pub fn read_full<R: Read>(input: &mut R, out: &mut [u8]) -> io::Result<usize>
-    ensures { IfOk result (λ n. n ≤ length out.new) }
+    ensures count { IfOk result (λ n. n ≤ length out.new) }
+    ensures bytes { IfOk result (λ n. Consumes (R.remaining input.old) (R.remaining input.new) (take n out.new)) }
+    ensures end { IfOk result (λ n. n < length out.new → IsAtEnd (R.remaining input.new)) }
 {
     let mut n = 0;
     while n < out.len() {

@@ -5,7 +5,7 @@
 ghost use Rattle.std.specs.Prelude.{◌≡◌, ◌≤◌, ◌<◌, length};
 ghost use Rattle.rules.specs.Bytes.{is_ident};
 ghost use Rattle.rules.specs.Scan.{skip, pass};
-ghost use Rattle.rules.specs.Attributes.{onward as onwardAt, value_of, attribute_at, attributes_end};
+ghost use Rattle.rules.specs.Attributes.{onward as onward_at, value_of, attribute_at, attributes_end};
 ghost use Rattle.rules.specs.Lexer.{comment_end, comment_to, declaration_from, bang, tag, tag_to, closing, markup, item_at};
 ghost use Rattle.scan.specs.Marks.{Marked, white_in};
 
@@ -16,7 +16,7 @@ use rules::{Attribute, Current, Expected, Item, Value};
 // Past the byte at a place, unless that closes the tag.
 fn onward(t: &[u8; 256], s: &[u8], at: usize) -> usize
     requires { Marked t.now }
-    ensures { result ≡ onwardAt s.now at }
+    ensures { result ≡ onward_at s.now at }
 {
     if scan::closing_at(t, s, at) {
         return at;

@@ -10,7 +10,7 @@ use lib.ListN.{length}
 use Rattle.rules.specs.Scan.{pick}
 use Rattle.rules.specs.Table.{node_at}
 use Rattle.rules.specs.Sound.{count_of, sound, tagged}
-use Rattle.rules.specs.Refusals.{Sound, page_too_long, table_not_sound, not_aTag, asking, asking_tag}
+use Rattle.rules.specs.Refusals.{Sound, page_too_long, table_not_sound, not_a_tag, asking, asking_tag}
 use Rattle.rules.specs.declared.Refusal.{Refusal}
 use Rattle.rules.specs.declared.Refusal.TheVariants.{PageTooLong, TableNotSound, NotATag}
 use Rattle.rules.specs.declared.Checked.{Checked}
@@ -72,11 +72,11 @@ module _ (p ws : List ℕ) where
   module _ (h : ℕ) where
     pub record SoundTag : Type 0 where
       pub sound_table : Sound p ws
-      pub tag_test : not_aTag ws h ≡ false
+      pub tag_test : not_a_tag ws h ≡ false
       pub below : h < count_of ws
       pub tag : (node_at ws h).kind ≡ 1
 
-    pub sound_tag : Sound p ws → not_aTag ws h ≡ false → SoundTag
+    pub sound_tag : Sound p ws → not_a_tag ws h ≡ false → SoundTag
     sound_tag s f =
         let t : (ltb h (count_of ws) && tagged (node_at ws h)) ≡ true = not-false (ltb h (count_of ws) && tagged (node_at ws h)) f in
         record {
@@ -87,10 +87,10 @@ module _ (p ws : List ℕ) where
         }
 
     pub was_fine_tag : asking_tag Refused p ws h Fine ≡ Fine → SoundTag
-    was_fine_tag e = let a = was_fine_also (not_aTag ws h) e in sound_tag a.0 a.1
+    was_fine_tag e = let a = was_fine_also (not_a_tag ws h) e in sound_tag a.0 a.1
 
     pub was_refused_tag : {A : Type 0} (R : Refusal → A) (b : A) (y : Refusal) → asking_tag Refused p ws h Fine ≡ Refused y → asking_tag R p ws h b ≡ R y
-    was_refused_tag = was_refused_also (not_aTag ws h)
+    was_refused_tag = was_refused_also (not_a_tag ws h)
 
     pub answered_tag : {A : Type 0} (R : Refusal → A) (b : A) → SoundTag → asking_tag R p ws h b ≡ b
-    answered_tag R b s = answered_also (not_aTag ws h) R b s.sound_table s.tag_test
+    answered_tag R b s = answered_also (not_a_tag ws h) R b s.sound_table s.tag_test

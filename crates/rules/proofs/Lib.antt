@@ -16,3 +16,4 @@ pub mod Closing
 pub mod Rounds
 pub mod Examples
 pub mod Pages
+pub mod Profile

@@ -3,7 +3,7 @@ use Rattle.std.specs.Prelude.{ℕ, ◌+◌, ◌*◌, Bool, false, ◌||◌, List
 use Rattle.rules.specs.Scan.{pick, part}
 use Rattle.rules.specs.Lists.{each}
 use Rattle.rules.specs.Text.{inner_text}
-use Rattle.rules.specs.Refusals.{asking, not_aTag, filled_by, asked_numbers}
+use Rattle.rules.specs.Refusals.{asking, not_a_tag, filled_by, asked_numbers}
 use Rattle.rules.specs.Answers.{attribute_answer}
 use Rattle.rules.specs.declared.Refusal.TheVariants.{NotATag, BufferTooShort}
 use Rattle.rules.specs.declared.Counted.{Counted}
@@ -18,7 +18,7 @@ some f (x ∷ xs) = f x || some f xs
 unfoldable pub batch_answer : List ℕ → List ℕ → List ℕ → Bool → Counted
 batch_answer p ws hs short =
     asking Refused p ws
-    (pick (some (not_aTag ws) hs) (Refused NotATag) (pick short (Refused BufferTooShort) (Count (length hs))))
+    (pick (some (not_a_tag ws) hs) (Refused NotATag) (pick short (Refused BufferTooShort) (Count (length hs))))
 
 -- what f gives for each name of the text s, one after the other: the first starts at `at`, and they end at the places
 unfoldable pub each_name : (List ℕ → List ℕ) → List ℕ → ℕ → List ℕ → List ℕ

@@ -10,6 +10,7 @@ pub mod Lexer
 pub mod Reader
 pub mod Table
 pub mod Sound
+pub mod Profile
 pub mod Facts
 pub mod Lookup
 pub mod Words

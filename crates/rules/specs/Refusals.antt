@@ -42,8 +42,8 @@ abbrev pub table_not_sound : List ℕ → List ℕ → Bool
 table_not_sound p ws = not (sound (length p) ws)
 
 -- 4
-abbrev pub not_aTag : List ℕ → ℕ → Bool
-not_aTag ws h = not (is_tag ws h)
+abbrev pub not_a_tag : List ℕ → ℕ → Bool
+not_a_tag ws h = not (is_tag ws h)
 
 -- 5
 abbrev pub selector_too_long : List ℕ → Bool
@@ -64,7 +64,7 @@ module _ {A : Type 0} (refused : Refusal → A) (p ws : List ℕ) where
   asking answer = pick (page_too_long p) (refused PageTooLong) (pick (table_not_sound p ws) (refused TableNotSound) answer)
 
   abbrev pub asking_tag : ℕ → A → A
-  asking_tag h answer = asking (pick (not_aTag ws h) (refused NotATag) answer)
+  asking_tag h answer = asking (pick (not_a_tag ws h) (refused NotATag) answer)
 
 -- a lent buffer afterwards: what was found in its first entries and the rest as it was, or all zeros
 abbrev pub filled_by : List ℕ → List ℕ → Counted → List ℕ

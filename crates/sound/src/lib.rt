@@ -31,7 +31,7 @@ fn tag_places(table: &[u32], h: usize, len: usize) -> bool
 // row. What most tags have is tried first: 1 where the end is above, and else 0.
 fn tag_ended(table: &[u32], h: usize) -> bool
     requires row_words_in_bounds { row_at h + row_words ≤ length table.now }
-    requires h_value { ((node_at table.now h).kind ≡ 1) × ((node_at table.now h).opened ≤ (node_at table.now h).end) }
+    requires tag { ((node_at table.now h).kind ≡ 1) × ((node_at table.now h).opened ≤ (node_at table.now h).end) }
     ensures { result ≡ ended_sound h (node_at table.now h) }
 {
     let n = table::row_at(table, h);
@@ -49,7 +49,7 @@ fn tag_ended(table: &[u32], h: usize) -> bool
 // Kind, places and ending of another node, which is its own last.
 fn other_sound(table: &[u32], h: usize, len: usize) -> bool
     requires row_words_in_bounds { row_at h + row_words ≤ length table.now }
-    requires fact { ((node_at table.now h).kind ≡ 1 → ⊥) × ((node_at table.now h).last ≡ h) }
+    requires no_tag { ((node_at table.now h).kind ≡ 1 → ⊥) × ((node_at table.now h).last ≡ h) }
     ensures { result ≡ (places_sound len (node_at table.now h) && ended_sound h (node_at table.now h)) }
 {
     let n = table::row_at(table, h);

@@ -6,7 +6,7 @@ use lib.Dec.{ltb}
 use borrow.Author.Tests.{ltb-true}
 use native.Mathlib.Omega.{arith}
 use Rattle.rules.specs.Sound.{last_at}
-use Rattle.rules.specs.Refusals.{page_too_long, table_not_sound, not_aTag}
+use Rattle.rules.specs.Refusals.{page_too_long, table_not_sound, not_a_tag}
 use Rattle.rules.specs.Answers.{range_answer}
 use Rattle.rules.proofs.Pick.{cases}
 use Rattle.tl.specs.Exports.{Ascending}
@@ -16,5 +16,5 @@ unfolding range_answer
 range_ascends white p ws h =
     cases Ascending (page_too_long p) (λ _. tt)
     (λ _. cases Ascending (table_not_sound p ws) (λ _. tt)
-    (λ _. cases Ascending (not_aTag ws h) (λ _. tt)
+    (λ _. cases Ascending (not_a_tag ws h) (λ _. tt)
     (λ _. cases Ascending (ltb h (last_at ws h)) (λ e. (omega (arith), omega (arith, ltb-true h (last_at ws h) e))) (λ _. tt))))

@@ -6,7 +6,7 @@
 ghost use Rattle.std.specs.Prelude.{◌≡◌, ◌≤◌, ◌<◌, pred, length};
 ghost use Rattle.rules.specs.Scan.{pick, part, same};
 ghost use Rattle.rules.specs.Names.{is_void};
-ghost use Rattle.rules.specs.Reader.{Reading, pushed, leaf, ended_by, put as putItem};
+ghost use Rattle.rules.specs.Reader.{Reading, pushed, leaf, ended_by, put as put_item};
 ghost use Rattle.rules.specs.Refusals.{page_limit};
 ghost use Rattle.rules.specs.declared.Item.TheVariants.{Tag, Close};
 ghost use Rattle.tree.specs.Held.{Step, Room, Inner, Within, Fits, Registered, moved_to, added_to, version_to, Open, Settled};
@@ -161,7 +161,7 @@ fn put_tag(
     slash: bool,
 ) -> Progress
     requires { Room table.old s × Fits (length page.now) s.at (Tag a e next slash) × (length page.now ≤ page_limit) }
-    ensures { Step (λ (R : Reading). putItem is_void page.now R (Tag a e next slash)) table.old s table.new result }
+    ensures { Step (λ (R : Reading). put_item is_void page.now R (Tag a e next slash)) table.old s table.new result }
 {
     let h = s.count;
     let inner = s.inner;
@@ -206,7 +206,7 @@ fn close_tag(table: &mut [u32], page: &[u8], s: State, a: usize, e: usize, next:
         × Inner table.old s (length page.now)
         × Fits (length page.now) s.at (Close a e next)
         × (length page.now ≤ page_limit) }
-    ensures { Step (λ (R : Reading). putItem is_void page.now R (Close a e next)) table.old s table.new result }
+    ensures { Step (λ (R : Reading). put_item is_void page.now R (Close a e next)) table.old s table.new result }
 {
     let inner = s.inner as usize;
     if inner == 0 {
@@ -232,7 +232,7 @@ pub fn put(table: &mut [u32], page: &[u8], s: State, item: Item) -> Progress
         × Inner table.old s (length page.now)
         × Fits (length page.now) s.at item
         × (length page.now ≤ page_limit) }
-    ensures { Step (λ (R : Reading). putItem is_void page.now R item) table.old s table.new result }
+    ensures { Step (λ (R : Reading). put_item is_void page.now R item) table.old s table.new result }
 {
     match item {
         Item::Text(e) => {

@@ -1,5 +1,5 @@
 -- What a walk over handles asks of each row, and what it promises.
-use Rattle.std.specs.Prelude.{◌≡◌, Bool, not, List, ℕ, eqb, length}
+use Rattle.std.specs.Prelude.{Bool, not, List, ℕ, eqb}
 use Rattle.rules.specs.Table.{node_at}
 use Rattle.rules.specs.Finds.{node_class_times}
 use Rattle.rules.specs.Query.{node_fits, meaning}

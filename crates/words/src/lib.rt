@@ -6,7 +6,7 @@
 ghost use Rattle.std.specs.Prelude.{◌≡◌, [], ◌∷◌, get_or, drop};
 ghost use Rattle.rules.specs.Names.{one_of};
 ghost use Rattle.rules.specs.Words.{begins, ends, word, has_word, unicode_white};
-ghost use Rattle.rules.specs.Words.{words as words_of, contains as holds, gap as gapIn, times as timesIn};
+ghost use Rattle.rules.specs.Words.{words as words_of, contains as holds, gap as gap_in, times as times_in};
 ghost use Rattle.words.specs.Separators.{separators, wide_gap};
 
 use constants::is_same;
@@ -106,7 +106,7 @@ fn byte_at(v: &[u8], i: usize) -> u8
 
 // The length of the separator at a place, or 0.
 pub fn gap(v: &[u8], i: usize, unicode: bool) -> usize
-    ensures { result ≡ gapIn (separators unicode) (drop i v.now) }
+    ensures { result ≡ gap_in (separators unicode) (drop i v.now) }
 {
     if v.len() <= i {
         return 0;
@@ -127,7 +127,7 @@ pub fn gap(v: &[u8], i: usize, unicode: bool) -> usize
 
 // 1 where w is the word k, and 0 otherwise; an empty w is no word.
 fn count(w: &[u8], k: &[u8]) -> usize
-    ensures { result ≡ timesIn k.now (word w.now []) }
+    ensures { result ≡ times_in k.now (word w.now []) }
 {
     if w.len() == 0 {
         return 0;
@@ -137,7 +137,7 @@ fn count(w: &[u8], k: &[u8]) -> usize
 
 // How many of the words in v are k.
 pub fn times(v: &[u8], k: &[u8], unicode: bool) -> usize
-    ensures { result ≡ timesIn k.now (words_of (separators unicode) v.now) }
+    ensures { result ≡ times_in k.now (words_of (separators unicode) v.now) }
 {
     let mut n: usize = 0;
     let mut start: usize = 0;

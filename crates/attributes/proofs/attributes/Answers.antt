@@ -1,7 +1,5 @@
 -- `attributes::attributes` meets its contract: a tag without what all names begin with has none of them; of another, what `read_all`
 -- says of the lent part is said of the page.
-use borrow.Author.Rules.{rules}
-use borrow.Author.Tests.{not-true}
 use mathlib.Core.Path.{◌≡◌, ◌∙◌}
 use Prim.Native.Nat.{◌-◌}
 use native.Mathlib.Omega.{arith}

@@ -2,8 +2,7 @@
 use borrow.Author.Rules.{rules}
 use borrow.Author.Count.{below_more}
 use native.Mathlib.Omega.{arith}
-use Prim.Native.Nat.{ℕ, ◌-◌, ◌≤◌, ◌<◌}
-use lib.ListN.{length, take}
+use lib.ListN.{take}
 use Rattle.rules.specs.Words.{Within}
 use Rattle.attributes.specs.Slots.{name_at}
 use Rattle.attributes.proofs.Alike.{alike_none, begins_alike}

@@ -1,10 +1,9 @@
 -- `attributes::fill_slots` meets its contract: the first j names have their slots.
 use borrow.Author.Rules.{rules}
 use mathlib.Core.Path.{◌≡◌, ap, ◌∙◌}
-use Prim.Native.Nat.{◌-◌, ◌≤◌}
 use native.Mathlib.Omega.{arith}
 use lib.ListN.{length}
-use Rattle.attributes.specs.Slots.{slot_of, Slotted}
+use Rattle.attributes.specs.Slots.{slot_of}
 use Rattle.attributes.proofs.Slots.{slotted_none, slotted_more}
 use Rattle.attributes.proofs.fill_slots.Goals as goal
 

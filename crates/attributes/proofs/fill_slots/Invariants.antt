@@ -1,11 +1,7 @@
 -- `attributes::fill_slots` meets its contract: the first j names have their slots.
-use borrow.Author.Rules.{rules}
-use mathlib.Core.Path.{◌≡◌, ap, ◌∙◌}
 use Prim.Native.Nat.{◌-◌, ◌≤◌}
-use native.Mathlib.Omega.{arith}
 use lib.ListN.{length}
-use Rattle.attributes.specs.Slots.{slot_of, Slotted}
-use Rattle.attributes.proofs.Slots.{slotted_none, slotted_more}
+use Rattle.attributes.specs.Slots.{Slotted}
 use Rattle.attributes.proofs.fill_slots.Given as goal
 
 abbrev pub invariant-loop-j : goal.invariant-loop-j

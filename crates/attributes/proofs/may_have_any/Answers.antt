@@ -1,5 +1,4 @@
 -- `attributes::may_have_any` meets its contract: a no is the quick test's.
-use borrow.Author.Rules.{rules}
 use mathlib.Core.Path.{◌≡◌}
 use Prim.Native.Nat.{ℕ}
 use native.Mathlib.Omega.{arith}

@@ -1,5 +1,4 @@
 -- `attributes::name_at` meets its contract: the part from its start to its end.
-use borrow.Author.Rules.{rules}
 use mathlib.Core.Path.{ap, ◌∙◌}
 use lib.ListN.{get_or}
 use Rattle.rules.specs.Scan.{part}

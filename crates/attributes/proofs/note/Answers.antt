@@ -1,7 +1,5 @@
 -- `attributes::note` meets its contract: by the tests of the name, and of the first word, which says whether anything is held.
-use borrow.Author.Rules.{rules}
 use mathlib.Core.Path.{ap, sym, ◌∙◌}
-use borrow.Author.Tests.{not-true, not-false}
 use Rattle.rules.specs.Lookup.{held_as}
 use Rattle.rules.specs.Refusals.{page_limit, held_numbers}
 use Rattle.rules.specs.declared.Held.TheVariants.{Absent, Bare}

@@ -1,5 +1,4 @@
 -- `attributes::note_all` meets its contract: a name to which the slot does not lead is not the attribute's.
-use borrow.Author.Rules.{rules}
 use Rattle.attributes.proofs.Slots.{no_name, one_name, name_inside}
 use Rattle.attributes.proofs.Noted.{notes_none, notes_only}
 use Rattle.attributes.proofs.note_all.Goals as goal

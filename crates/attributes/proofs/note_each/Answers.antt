@@ -1,9 +1,6 @@
 -- `attributes::note_each` meets its contract: the attribute was noted in the words of the first j names.
-use borrow.Author.Rules.{rules}
-use Prim.Native.Nat.{◌-◌}
 use native.Mathlib.Omega.{arith}
-use lib.ListN.{length}
-use Rattle.attributes.proofs.Noted.{Noting, noting_none, noting_more, noting_all}
+use Rattle.attributes.proofs.Noted.{noting_none, noting_more, noting_all}
 use Rattle.attributes.proofs.note_each.Goals as goal
 
 pub loop-j-init : goal.loop-j-init

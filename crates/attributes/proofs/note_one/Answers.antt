@@ -1,5 +1,4 @@
 -- `attributes::note_one` meets its contract: the lent part is the words of name j.
-use borrow.Author.Rules.{rules}
 use Rattle.attributes.proofs.Noted.{notes_one}
 use Rattle.attributes.proofs.note_one.Goals as goal
 

@@ -1,12 +1,11 @@
 -- `attributes::read_all` meets its contract: the attributes from `start` up to i were noted.
-use borrow.Author.Rules.{rules}
 use mathlib.Core.Path.{ap, sym, ◌∙◌}
-use Prim.Native.Nat.{◌*◌, ◌-◌}
+use Prim.Native.Nat.{◌*◌}
 use native.Mathlib.Omega.{arith}
 use lib.ListN.{length, length-replicate}
 use Rattle.scan.specs.Marks.{white_in}
 use Rattle.tag.proofs.Turns.{turn, none}
-use Rattle.attributes.proofs.Reading.{turn_placed, Reading, reading_none, reading_more, reading_all}
+use Rattle.attributes.proofs.Reading.{turn_placed, reading_none, reading_more, reading_all}
 use Rattle.attributes.proofs.read_all.Goals as goal
 
 pub loop-a-init : goal.loop-a-init

@@ -1,12 +1,8 @@
 -- `attributes::read_all` meets its contract: the attributes from `start` up to i were noted.
-use borrow.Author.Rules.{rules}
-use mathlib.Core.Path.{ap, sym, ◌∙◌}
-use Prim.Native.Nat.{◌*◌, ◌-◌}
-use native.Mathlib.Omega.{arith}
-use lib.ListN.{length, length-replicate}
+use Prim.Native.Nat.{◌-◌}
+use lib.ListN.{length}
 use Rattle.scan.specs.Marks.{white_in}
-use Rattle.tag.proofs.Turns.{turn, none}
-use Rattle.attributes.proofs.Reading.{turn_placed, Reading, reading_none, reading_more, reading_all}
+use Rattle.attributes.proofs.Reading.{Reading}
 use Rattle.attributes.proofs.read_all.Given as goal
 
 abbrev pub invariant-loop-a : goal.invariant-loop-a

@@ -1,5 +1,4 @@
 -- `attributes::start_of` meets its contract: a name after the first starts at the end of the one before.
-use borrow.Author.Rules.{rules}
 use Rattle.attributes.proofs.Slots.{start_after}
 use Rattle.attributes.proofs.start_of.Goals as goal
 

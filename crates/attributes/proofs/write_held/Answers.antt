@@ -1,5 +1,4 @@
 -- `attributes::write_held` meets its contract: a value's places lie in a page, so they are words.
-use borrow.Author.Rules.{rules}
 use native.Mathlib.Omega.{arith}
 use Rattle.attributes.proofs.write_held.Goals as goal
 

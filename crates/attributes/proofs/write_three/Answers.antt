@@ -1,5 +1,4 @@
 -- `attributes::write_three` meets its contract: three stores leave nothing of the old words.
-use borrow.Author.Rules.{rules}
 use mathlib.Core.List.{[], ◌∷◌}
 use Rattle.rules.proofs.Table.{all_stores}
 use Rattle.attributes.proofs.write_three.Goals as goal

@@ -5,13 +5,13 @@ use Prim.Native.Nat.{◌-◌, ◌≤◌}
 use native.Mathlib.Omega.{arith}
 use borrow.Author.Tests.{not-true, not-false}
 use lib.ListN.{length, drop}
-use Rattle.rules.specs.Refusals.{not_aTag}
+use Rattle.rules.specs.Refusals.{not_a_tag}
 use Rattle.rules.specs.Batch.{some}
 use Rattle.batch.proofs.Handles.{some_next, some_end}
 use Rattle.batch.proofs.all_tags.Given as goal
 
 abbrev pub invariant-loop-i : goal.invariant-loop-i
-invariant-loop-i l = (l.i ≤ length l.handles) × (some (not_aTag l.table) l.handles ≡ some (not_aTag l.table) (drop l.i l.handles))
+invariant-loop-i l = (l.i ≤ length l.handles) × (some (not_a_tag l.table) l.handles ≡ some (not_a_tag l.table) (drop l.i l.handles))
 
 abbrev pub decreases-loop-i : goal.decreases-loop-i
 decreases-loop-i l = length l.handles - l.i

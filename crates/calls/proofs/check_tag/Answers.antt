@@ -2,7 +2,7 @@
 use borrow.Author.Rules.{rules}
 use mathlib.Core.Path.{sym, ◌∙◌}
 use Rattle.rules.specs.Scan.{pick}
-use Rattle.rules.specs.Refusals.{not_aTag}
+use Rattle.rules.specs.Refusals.{not_a_tag}
 use Rattle.rules.specs.declared.Refusal.TheVariants.{NotATag}
 use Rattle.rules.specs.declared.Checked.TheVariants.{Fine, Refused}
 use Rattle.rules.proofs.Asking.{was_fine, was_refused}
@@ -18,7 +18,7 @@ returns-then-is_tag c = let a = c.args in
 
 pub returns-in-Refused : goal.returns-in-Refused
 returns-in-Refused c = let a = c.args in
-    let b = pick (not_aTag a.table.now a.h) (Refused NotATag) Fine in
+    let b = pick (not_a_tag a.table.now a.h) (Refused NotATag) Fine in
     sym (was_refused a.page.now a.table.now Refused b _ (sym c.check.ensures ∙ c.in-Refused.is))
 
 pub returns-else-is_tag : goal.returns-else-is_tag

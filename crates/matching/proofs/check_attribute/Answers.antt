@@ -1,5 +1,4 @@
 -- `matching::check_attribute` meets its contract: by what the lookup held; a value's part of the page is compared.
-use borrow.Author.Rules.{rules}
 use mathlib.Core.Path.{◌∙◌}
 use Rattle.matching.proofs.Values.{held_absent, held_bare, held_value}
 use Rattle.matching.proofs.check_attribute.Goals as goal

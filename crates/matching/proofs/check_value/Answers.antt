@@ -1,6 +1,4 @@
 -- `matching::check_value` meets its contract: the names' bytes are lent; where the opening does not have the value's, no value fits.
-use borrow.Author.Rules.{rules}
-use borrow.Author.Tests.{not-true}
 use mathlib.Core.Path.{◌∙◌}
 use Rattle.rules.specs.Query.{text_of}
 use Rattle.scan.specs.Marks.{white_in}

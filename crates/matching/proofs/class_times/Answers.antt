@@ -1,7 +1,6 @@
 -- `matching::class_times` meets its contract: only a tag is looked at, and only if its opening may have the name; the words of its
 -- value are counted.
-use borrow.Author.Rules.{rules}
-use borrow.Author.Tests.{eq-eqb, ne_eqb, not-true}
+use borrow.Author.Tests.{eq-eqb, ne_eqb}
 use mathlib.Core.Path.{◌∙◌}
 use Rattle.rules.specs.Lookup.{class_name}
 use Rattle.scan.specs.Marks.{white_in}

@@ -1,5 +1,4 @@
 -- `matching::fits` meets its contract: the kind is tested as the definition does.
-use borrow.Author.Rules.{rules}
 use borrow.Author.Tests.{eq-eqb, ne_eqb}
 use Rattle.matching.proofs.fits.Goals as goal
 

@@ -1,5 +1,4 @@
 -- `matching::has_attribute` meets its contract: by what the lookup held.
-use borrow.Author.Rules.{rules}
 use Rattle.matching.proofs.Values.{held_absent, held_bare, held_value}
 use Rattle.matching.proofs.has_attribute.Goals as goal
 

@@ -2,8 +2,7 @@
 use borrow.Author.Rules.{rules}
 use borrow.Author.Rules.{rules}
 use mathlib.Core.Path.{◌≡◌, ap, sym, ◌∙◌}
-use mathlib.Core.Bool.{Bool}
-use Prim.Native.Nat.{ℕ, ◌-◌, ◌≤◌}
+use Prim.Native.Nat.{ℕ, ◌-◌}
 use native.Mathlib.Omega.{arith}
 use Rattle.rules.specs.Query.{node_fits, meaning}
 use Rattle.scan.specs.Marks.{white_in}

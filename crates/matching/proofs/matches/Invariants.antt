@@ -1,15 +1,9 @@
 -- `matching::matches` meets its contract: what the chain means, the pieces from i on mean.
-use borrow.Author.Rules.{rules}
-use borrow.Author.Rules.{rules}
-use mathlib.Core.Path.{◌≡◌, ap, sym, ◌∙◌}
-use mathlib.Core.Bool.{Bool}
-use Prim.Native.Nat.{ℕ, ◌-◌, ◌≤◌}
-use native.Mathlib.Omega.{arith}
+use mathlib.Core.Path.{◌≡◌}
+use Prim.Native.Nat.{◌-◌, ◌≤◌}
 use Rattle.rules.specs.Query.{node_fits, meaning}
 use Rattle.scan.specs.Marks.{white_in}
 use Rattle.piece.specs.Words.{pieces_from}
-use Rattle.piece.proofs.Back.{mean_none}
-use Rattle.matching.proofs.Settling.{chain_answer, chain_rest}
 use Rattle.matching.proofs.matches.Given as goal
 
 abbrev pub invariant-loop-i : goal.invariant-loop-i

@@ -1,5 +1,4 @@
 -- `matching::may_have` meets its contract: the opening is too short for k, or the quick test says it.
-use borrow.Author.Rules.{rules}
 use native.Mathlib.Omega.{arith}
 use Rattle.rules.proofs.Within.{too_short}
 use Rattle.matching.proofs.may_have.Goals as goal

@@ -1,5 +1,4 @@
 -- `matching::may_have_class` meets its contract: it says no only where the test does.
-use borrow.Author.Rules.{rules}
 use mathlib.Core.Bool.{true≢false}
 use Rattle.matching.proofs.may_have_class.Goals as goal
 

@@ -1,6 +1,4 @@
 -- `matching::settle` meets its contract: the definition, joiner by joiner.
-use borrow.Author.Rules.{rules}
-use borrow.Author.Rules.{rules}
 use Rattle.matching.proofs.settle.Goals as goal
 
 pub returns-in-End : goal.returns-in-End

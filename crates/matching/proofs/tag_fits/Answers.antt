@@ -1,5 +1,4 @@
 -- `matching::tag_fits` meets its contract: each arm asks what its variant means, of the names' bytes.
-use borrow.Author.Rules.{rules}
 use mathlib.Core.Path.{◌∙◌}
 use Rattle.matching.proofs.tag_fits.Goals as goal
 

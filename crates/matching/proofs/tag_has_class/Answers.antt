@@ -1,6 +1,4 @@
 -- `matching::tag_has_class` meets its contract: where the opening does not have k, no value fits; else the class is compared.
-use borrow.Author.Rules.{rules}
-use borrow.Author.Tests.{not-true}
 use Rattle.rules.specs.Lookup.{class_name}
 use Rattle.scan.specs.Marks.{white_in}
 use Rattle.matching.specs.declared.Compare.TheVariants.{ClassWord}

@@ -1,5 +1,4 @@
 -- `matching::value_fits` meets its contract: each arm makes the comparison that its variant means.
-use borrow.Author.Rules.{rules}
 use Rattle.matching.proofs.value_fits.Goals as goal
 
 pub returns-in-Equal : goal.returns-in-Equal

@@ -1,5 +1,4 @@
 -- `piece::joiner_from` meets its contract: by the word.
-use borrow.Author.Tests.{ne_eqb}
 use Rattle.piece.proofs.joiner_from.Goals as goal
 
 pub returns-in-1 : goal.returns-in-1

@@ -1,5 +1,4 @@
 -- `piece::put_piece` meets its contract: what `write_piece` says of the part, said of the whole.
-use borrow.Author.Rules.{rules}
 use Rattle.piece.proofs.put_piece.Goals as goal
 
 pub returns : goal.returns

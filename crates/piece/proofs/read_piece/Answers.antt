@@ -1,5 +1,4 @@
 -- `piece::read_piece` meets its contract: by what the two halves were read as.
-use borrow.Author.Rules.{rules}
 use Rattle.piece.proofs.read_piece.Goals as goal
 
 pub returns : goal.returns

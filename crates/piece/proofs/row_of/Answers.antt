@@ -1,5 +1,4 @@
 -- `piece::row_of` meets its contract: each variant is written as its kind and its names.
-use borrow.Author.Rules.{rules}
 use Rattle.piece.proofs.row_of.Goals as goal
 
 pub returns-in-Tag : goal.returns-in-Tag

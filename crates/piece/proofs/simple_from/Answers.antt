@@ -1,5 +1,4 @@
 -- `piece::simple_from` meets its contract: by the kind.
-use borrow.Author.Tests.{ne_eqb}
 use Rattle.piece.proofs.simple_from.Goals as goal
 
 pub returns-in-1 : goal.returns-in-1

@@ -1,5 +1,4 @@
 -- `piece::write_piece` meets its contract: six stores fill six words.
-use borrow.Author.Rules.{rules}
 use native.Mathlib.Omega.{arith}
 use lib.ListN.{length-set}
 use Rattle.rules.specs.Chain.{six_words}

@@ -1,11 +1,8 @@
 -- `queryselector::copy` meets its contract: after i turns the first i words are copied, and the rest is as it was.
-use borrow.Author.Rules.{rules}
-use native.Mathlib.Omega.{arith}
-use mathlib.Core.Path.{◌≡◌, ap, ◌∙◌}
-use mathlib.Core.List.{List, ◌++◌}
-use Prim.Native.Nat.{ℕ, ◌≤◌, ◌-◌}
-use lib.ListN.{length, get_or, set, take, drop}
-use Rattle.queryselector.proofs.Written.{copied}
+use mathlib.Core.Path.{◌≡◌}
+use mathlib.Core.List.{◌++◌}
+use Prim.Native.Nat.{◌≤◌, ◌-◌}
+use lib.ListN.{length, take, drop}
 use Rattle.queryselector.proofs.copy.Given as goal
 
 abbrev pub invariant-loop-i : goal.invariant-loop-i

@@ -1,6 +1,4 @@
 -- `queryselector::join_of` meets its contract: by the byte, and then by whether there were spaces.
-use borrow.Author.Rules.{rules}
-use borrow.Author.Tests.{ne_eqb, lt-ltb, le-ltb}
 use Rattle.queryselector.proofs.join_of.Goals as goal
 
 pub returns-in-44 : goal.returns-in-44

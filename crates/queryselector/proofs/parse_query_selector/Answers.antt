@@ -1,5 +1,4 @@
 -- `queryselector::parse_query_selector` meets its contract: by what was read, and how many words were lent.
-use borrow.Author.Rules.{rules}
 use native.Mathlib.Omega.{arith}
 use Rattle.queryselector.proofs.Written.{parsed}
 use Rattle.queryselector.proofs.Public.{answer_long, answer_unread, answer_short, answer_count}

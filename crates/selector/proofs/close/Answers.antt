@@ -1,5 +1,4 @@
 -- `selector::close` meets its contract: by whether `]` stood there.
-use borrow.Author.Rules.{rules}
 use Rattle.selector.proofs.Steps.{closed_next, closed_other}
 use Rattle.selector.proofs.close.Goals as goal
 

@@ -1,5 +1,4 @@
 -- `selector::parse_attribute` meets its contract: by the byte after the name, or the end.
-use borrow.Author.Rules.{rules}
 use Rattle.selector.proofs.Steps.{byte_within, attribute_end, attribute_bare, attribute_none, attribute_found, attribute_operator, attribute_other}
 use Rattle.selector.proofs.parse_attribute.Goals as goal
 

@@ -1,5 +1,4 @@
 -- `selector::parse_simple` meets its contract: by the byte at the place, or the end.
-use borrow.Author.Rules.{rules}
 use Rattle.selector.proofs.Steps.{byte_within, simple_end, simple_id, simple_class, simple_all, simple_attribute, simple_tag, simple_none}
 use Rattle.selector.proofs.parse_simple.Goals as goal
 

@@ -1,5 +1,4 @@
 -- `selector::read_identifier` meets its contract: the identifier's end is no further than the selector's.
-use borrow.Author.Rules.{rules}
 use native.Mathlib.Omega.{arith}
 use Rattle.rules.specs.Bytes.{is_ident}
 use Rattle.rules.proofs.Runs.{skip_le}

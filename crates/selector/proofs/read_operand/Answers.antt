@@ -1,5 +1,4 @@
 -- `selector::read_operand` meets its contract: by the byte that was read, or the end.
-use borrow.Author.Rules.{rules}
 use Rattle.selector.proofs.Steps.{byte_within, operand_end, operand_quoted, operand_bare}
 use Rattle.selector.proofs.read_operand.Goals as goal
 

@@ -1,5 +1,4 @@
 -- `selector::read_operator` meets its contract: by whether `=` stood there, and a value after it.
-use borrow.Author.Rules.{rules}
 use Rattle.selector.proofs.Steps.{next_within, operator_other, operator_none, operator_found}
 use Rattle.selector.proofs.read_operator.Goals as goal
 

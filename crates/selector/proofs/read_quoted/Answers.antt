@@ -1,5 +1,4 @@
 -- `selector::read_quoted` meets its contract: by whether the quote stood after the identifier.
-use borrow.Author.Rules.{rules}
 use Rattle.selector.proofs.Steps.{quoted_next, quoted_other}
 use Rattle.selector.proofs.read_quoted.Goals as goal
 

@@ -1,12 +1,5 @@
 -- `selector::skip_whitespaces` meets its contract: the run from `at` is the run from i.
-use borrow.Author.Rules.{rules}
-use mathlib.Core.Path.{◌≡◌, refl}
-use Prim.Native.Nat.{◌-◌}
-use native.Mathlib.Omega.{arith}
 use borrow.Author.Tests.{eq-eqb, ne_eqb}
-use lib.ListN.{length}
-use Rattle.rules.specs.Bytes.{is}
-use Rattle.rules.specs.Scan.{skip}
 use Rattle.rules.proofs.Runs.{again, stopped, ended}
 use Rattle.selector.proofs.skip_whitespaces.Goals as goal
 

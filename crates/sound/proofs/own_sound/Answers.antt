@@ -1,7 +1,7 @@
 -- `sound::own_sound` meets its contract: a last that is not right decides (`own_not`), else the places do, and how the node ended
 -- (`own_is`).
 use borrow.Author.Rules.{rules}
-use borrow.Author.Tests.{not-true, not-false, lt-leb, le-leb, le-ltb, lt-ltb, eq-eqb, ne_eqb}
+use borrow.Author.Tests.{lt-leb, le-leb, le-ltb, lt-ltb, eq-eqb, ne_eqb}
 use native.Mathlib.Omega.{arith}
 use mathlib.Core.Path.{◌≡◌, sym, ap, ◌∙◌}
 use mathlib.Core.Bool.{true, and-false}
@@ -40,7 +40,7 @@ places c = sym c.tag_places.ensures ∙ c.if-not-tag_places.false
 pub tag_ended-requires : goal.tag_ended-requires
 tag_ended-requires c = let a = c.args in
     let tag : (node_at a.table.now a.h).kind ≡ 1 = sym (ap (λ (n : Node). n.kind) c.row_at-n.ensures) ∙ c.if-n-eq1.true in
-    record { row_words_in_bounds = search rules; h_value = (tag, tag_end_lem a.len (node_at a.table.now a.h) tag (places (goal.at.tag_ended-requires c).Else-not-tag_places)) }
+    record { row_words_in_bounds = search rules; tag = (tag, tag_end_lem a.len (node_at a.table.now a.h) tag (places (goal.at.tag_ended-requires c).Else-not-tag_places)) }
 
 pub returns-then-n-eq1 : goal.returns-then-n-eq1
 returns-then-n-eq1 c = let a = c.args in
@@ -61,7 +61,7 @@ returns-then-last-h-2 c = let a = c.args in
     rw (← c.row_at-n.ensures) (own_not a.len a.count a.h n (rw (other, own, and-false)))
 
 pub other_sound-requires : goal.other_sound-requires
-other_sound-requires c = record { row_words_in_bounds = search rules; fact = rw (← c.row_at-n.ensures) (c.if-n-eq1.false, c.if-last-h-2.false) }
+other_sound-requires c = record { row_words_in_bounds = search rules; no_tag = rw (← c.row_at-n.ensures) (c.if-n-eq1.false, c.if-last-h-2.false) }
 
 pub returns : goal.returns
 returns c = let a = c.args in

@@ -2,11 +2,8 @@
 use borrow.Author.Rules.{rules}
 use native.Mathlib.Omega.{arith}
 use mathlib.Core.Path.{◌≡◌, refl, sym}
-use mathlib.Core.Bool.{true}
-use Prim.Native.Nat.{◌≤◌, ◌-◌}
 use Rattle.rules.specs.Sound.{all, row_sound}
 use Rattle.rules.proofs.Sound.{all_true, all_false, all_more, row_parent}
-use Rattle.sound.specs.Row.{Starts}
 use Rattle.sound.proofs.Rows.{next_not, next_from_lem}
 use Rattle.sound.proofs.rows_sound.Goals as goal
 

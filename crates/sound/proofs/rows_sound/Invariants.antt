@@ -1,13 +1,9 @@
 -- `sound::rows_sound` meets its contract: the rows below h are sound, so their parents are right and the climb for h may trust them.
-use borrow.Author.Rules.{rules}
-use native.Mathlib.Omega.{arith}
-use mathlib.Core.Path.{◌≡◌, refl, sym}
+use mathlib.Core.Path.{◌≡◌}
 use mathlib.Core.Bool.{true}
 use Prim.Native.Nat.{◌≤◌, ◌-◌}
 use Rattle.rules.specs.Sound.{all, row_sound}
-use Rattle.rules.proofs.Sound.{all_true, all_false, all_more, row_parent}
 use Rattle.sound.specs.Row.{Starts}
-use Rattle.sound.proofs.Rows.{next_not, next_from_lem}
 use Rattle.sound.proofs.rows_sound.Given as goal
 
 abbrev pub invariant-loop-h : goal.invariant-loop-h

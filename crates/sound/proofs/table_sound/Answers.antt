@@ -1,6 +1,5 @@
 -- `sound::table_sound` meets its contract: each return knows some of the definition's four tests, and one that fails decides (`sound_is`).
-use borrow.Author.Rules.{rules}
-use borrow.Author.Tests.{not-true, not-false, lt-leb, le-leb}
+use borrow.Author.Tests.{lt-leb, le-leb}
 use native.Mathlib.Omega.{arith}
 use mathlib.Core.Path.{refl, sym, ◌∙◌}
 use Prim.Native.Nat.{◌≤◌, ◌<◌}

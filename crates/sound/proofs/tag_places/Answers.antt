@@ -1,5 +1,4 @@
 -- `sound::tag_places` meets its contract (`tag_places`).
-use borrow.Author.Rules.{rules}
 use mathlib.Core.Path.{ap, ◌∙◌}
 use Rattle.rules.specs.declared.Node.{Node}
 use Rattle.sound.proofs.Rows.{tag_places}

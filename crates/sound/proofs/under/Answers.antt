@@ -1,8 +1,6 @@
 -- `sound::under` meets its contract: what reaches h among all lower rows is what reaches it among those below p.
-use borrow.Author.Rules.{rules}
-use borrow.Author.Rules.{rules}
 use native.Mathlib.Omega.{arith}
-use mathlib.Core.Path.{◌≡◌, sym, ap, ◌∙◌}
+use mathlib.Core.Path.{◌≡◌, ap, ◌∙◌}
 use mathlib.Core.List.{List}
 use Prim.Native.Nat.{ℕ, suc, ◌≤◌, ◌-◌}
 use Rattle.rules.specs.declared.Node.{Node}

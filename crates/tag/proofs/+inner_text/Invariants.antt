@@ -1,6 +1,6 @@
 -- The cycle of calls {inner_text}: it calls itself for a child, whose range is shorter. What is left to be written, from i on, is the
 -- text after row k, as in the flat walk; a child's piece of it is what lies below the child, or its own text.
-use Rattle.std.proofs.Common.{ℕ, ◌-◌}
+use Rattle.std.proofs.Common.{◌-◌}
 use Rattle.rules.specs.Sound.{last_at}
 use Rattle.rules.specs.Text.{inner_text}
 use Rattle.rules.proofs.Buffers.{Left}

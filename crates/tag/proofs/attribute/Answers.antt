@@ -1,5 +1,4 @@
 -- `tag::attribute` meets its contract: what `get` says of the lent part, said of the page (`looked`).
-use borrow.Author.Rules.{rules}
 use native.Mathlib.Omega.{arith}
 use Rattle.tag.proofs.Looks.{length_up_to, looked}
 use Rattle.tag.proofs.attribute.Goals as goal

@@ -1,12 +1,8 @@
 -- `tag::copy` meets its contract: out is the lent one with i of the bytes from `at` on (the kit's `paste`).
-use borrow.Author.Rules.{rules}
-use mathlib.Core.Path.{◌≡◌, ap, ◌∙◌}
-use mathlib.Core.List.{List, append_assoc}
-use Prim.Native.Nat.{ℕ, ◌+◌, ◌≤◌, ◌-◌}
-use native.Mathlib.Numerals.{add-one}
-use native.Mathlib.Omega.{arith}
-use lib.ListN.{length, take, drop, set, get_or}
-use lib.Seq.{paste, paste-zero, paste-suc, take-length}
+use mathlib.Core.Path.{◌≡◌}
+use Prim.Native.Nat.{◌≤◌, ◌-◌}
+use lib.ListN.{length}
+use lib.Seq.{paste}
 use Rattle.tag.proofs.copy.Given as goal
 
 abbrev pub invariant-loop-i : goal.invariant-loop-i

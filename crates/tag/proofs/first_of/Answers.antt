@@ -1,11 +1,7 @@
 -- `tag::first_of` meets its contract: the first of that name from `from` on is the first from i on.
-use borrow.Author.Rules.{rules}
-use mathlib.Core.Path.{◌≡◌, sym, ◌∙◌}
-use Prim.Native.Nat.{◌-◌, ◌≤◌}
+use mathlib.Core.Path.{sym, ◌∙◌}
 use native.Mathlib.Omega.{arith}
-use lib.ListN.{length}
-use Rattle.scan.specs.Marks.{white_in}
-use Rattle.tag.proofs.Turns.{turn, none, first, first_none, first_hit, first_miss}
+use Rattle.tag.proofs.Turns.{turn, none, first_none, first_hit, first_miss}
 use Rattle.tag.proofs.first_of.Goals as goal
 
 pub returns-in_default : goal.returns-in_default

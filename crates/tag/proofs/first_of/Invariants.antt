@@ -1,11 +1,9 @@
 -- `tag::first_of` meets its contract: the first of that name from `from` on is the first from i on.
-use borrow.Author.Rules.{rules}
-use mathlib.Core.Path.{◌≡◌, sym, ◌∙◌}
+use mathlib.Core.Path.{◌≡◌}
 use Prim.Native.Nat.{◌-◌, ◌≤◌}
-use native.Mathlib.Omega.{arith}
 use lib.ListN.{length}
 use Rattle.scan.specs.Marks.{white_in}
-use Rattle.tag.proofs.Turns.{turn, none, first, first_none, first_hit, first_miss}
+use Rattle.tag.proofs.Turns.{first}
 use Rattle.tag.proofs.first_of.Given as goal
 
 abbrev pub invariant-loop-a : goal.invariant-loop-a

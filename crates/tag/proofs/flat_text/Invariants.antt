@@ -1,12 +1,8 @@
 -- `tag::flat_text` meets its contract: what is left to be written, from i on, is the text after row k.
-use borrow.Author.Rules.{rules}
-use mathlib.Core.Path.{sym}
-use Prim.Native.Nat.{◌+◌, ◌-◌}
-use native.Mathlib.Omega.{arith}
+use Prim.Native.Nat.{◌-◌}
 use Rattle.rules.specs.Text.{inner_text}
-use Rattle.rules.proofs.Buffers.{Left, left_all, left_as, left_room, left_more, left_none}
-use Rattle.tag.specs.Tag.{text_of}
-use Rattle.tag.proofs.Texts.{Walk, after, after_all, after_none, after_next, fits, walk, walk_next, next_fits, next_row}
+use Rattle.rules.proofs.Buffers.{Left}
+use Rattle.tag.proofs.Texts.{Walk, after}
 use Rattle.tag.proofs.flat_text.Given as goal
 
 abbrev pub invariant-loop-k : goal.invariant-loop-k

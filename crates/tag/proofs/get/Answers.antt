@@ -1,5 +1,4 @@
 -- `tag::get` meets its contract: the definition's test of the name is the code's.
-use borrow.Author.Rules.{rules}
 use mathlib.Core.Path.{sym, ◌∙◌}
 use Rattle.rules.specs.Lookup.{lookup_from}
 use Rattle.tag.proofs.get.Goals as goal

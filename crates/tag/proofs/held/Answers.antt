@@ -1,5 +1,4 @@
 -- `tag::held` meets its contract: by the two cases of a value.
-use borrow.Author.Rules.{rules}
 use mathlib.Core.Path.{ap, sym}
 use Rattle.rules.specs.Lookup.{held_as}
 use Rattle.tag.proofs.held.Goals as goal

@@ -1,5 +1,4 @@
 -- `tag::is_last` meets its contract: the two comparisons are the definition's.
-use borrow.Author.Rules.{rules}
 use Rattle.tag.proofs.is_last.Goals as goal
 
 pub returns : goal.returns

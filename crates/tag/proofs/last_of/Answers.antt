@@ -1,15 +1,9 @@
 -- `tag::last_of` meets its contract: the last of that name from `from` on is the last from i on, where `found` came before. Where the
 -- name stands nowhere in the rest, that is `found`.
-use borrow.Author.Rules.{rules}
-use borrow.Author.Tests.{not-true}
-use mathlib.Core.Path.{◌≡◌, sym, ◌∙◌}
-use Prim.Native.Nat.{◌-◌, ◌≤◌}
+use mathlib.Core.Path.{sym, ◌∙◌}
 use native.Mathlib.Omega.{arith}
-use lib.ListN.{length}
-use Rattle.rules.specs.declared.Held.TheVariants.{Absent}
-use Rattle.scan.specs.Marks.{white_in}
 use Rattle.laws.proofs.Opening.{last_out}
-use Rattle.tag.proofs.Turns.{turn, none, last, last_none, last_turn}
+use Rattle.tag.proofs.Turns.{turn, none, last_none, last_turn}
 use Rattle.tag.proofs.last_of.Goals as goal
 
 pub returns-in_default : goal.returns-in_default

@@ -1,5 +1,4 @@
 -- `tag::may_follow` meets its contract: what is left is too short for the name, or the quick test says it.
-use borrow.Author.Rules.{rules}
 use lib.ListN.{length}
 use Rattle.rules.proofs.Within.{too_short}
 use Rattle.tag.proofs.may_follow.Goals as goal

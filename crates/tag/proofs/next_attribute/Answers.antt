@@ -1,5 +1,4 @@
 -- `tag::next_attribute` meets its contract: the byte after the white tells whether an attribute starts there.
-use borrow.Author.Rules.{rules}
 use Rattle.rules.specs.Attributes.{not_closing}
 use Rattle.rules.proofs.Places.{here_false, was_byte, was_end}
 use Rattle.tag.specs.Tag.{next_of}

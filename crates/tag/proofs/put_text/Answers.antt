@@ -1,5 +1,4 @@
 -- `tag::put_text` meets its contract: a text's part is copied, and of another node nothing is written.
-use borrow.Author.Rules.{rules}
 use borrow.Author.Tests.{eq-eqb, ne_eqb}
 use Rattle.rules.proofs.Buffers.{wrote_none}
 use Rattle.tag.proofs.put_text.Goals as goal

@@ -1,5 +1,4 @@
 -- `tag::range` meets its contract: the definition's test is the code's.
-use borrow.Author.Rules.{rules}
 use borrow.Author.Tests.{lt-ltb, le-ltb}
 use native.Mathlib.Numerals.{add-one}
 use Rattle.tag.proofs.range.Goals as goal

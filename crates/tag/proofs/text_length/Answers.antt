@@ -1,12 +1,10 @@
 -- `tag::text_length` meets its contract: the size so far and the length of the text after row k are the whole length. A text's size
-use borrow.Author.Rules.{rules}
-use mathlib.Core.Path.{◌≡◌, ap}
-use Prim.Native.Nat.{◌+◌, ◌*◌, ◌-◌, ◌≤◌}
+use mathlib.Core.Path.{ap}
+use Prim.Native.Nat.{◌+◌}
 use native.Mathlib.Omega.{arith}
 use lib.ListN.{length, length-append}
-use Rattle.rules.specs.Text.{inner_text}
 use Rattle.tag.specs.Tag.{text_of}
-use Rattle.tag.proofs.Texts.{Walk, after, after_all, after_none, after_next, fits, walk, walk_next, next_fits, next_row}
+use Rattle.tag.proofs.Texts.{after, after_all, after_none, after_next, fits, walk, walk_next, next_fits, next_row}
 use Rattle.tag.proofs.text_length.Goals as goal
 
 pub row_at-n-requires : goal.row_at-n-requires

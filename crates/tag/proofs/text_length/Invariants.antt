@@ -1,12 +1,9 @@
 -- `tag::text_length` meets its contract: the size so far and the length of the text after row k are the whole length. A text's size
-use borrow.Author.Rules.{rules}
-use mathlib.Core.Path.{◌≡◌, ap}
+use mathlib.Core.Path.{◌≡◌}
 use Prim.Native.Nat.{◌+◌, ◌*◌, ◌-◌, ◌≤◌}
-use native.Mathlib.Omega.{arith}
-use lib.ListN.{length, length-append}
+use lib.ListN.{length}
 use Rattle.rules.specs.Text.{inner_text}
-use Rattle.tag.specs.Tag.{text_of}
-use Rattle.tag.proofs.Texts.{Walk, after, after_all, after_none, after_next, fits, walk, walk_next, next_fits, next_row}
+use Rattle.tag.proofs.Texts.{Walk, after}
 use Rattle.tag.proofs.text_length.Given as goal
 
 -- and a row's number are below 2^32, so the sum fits.

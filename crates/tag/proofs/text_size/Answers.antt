@@ -1,5 +1,4 @@
 -- `tag::text_size` meets its contract: a part that lies in the page is as long as its places are apart.
-use borrow.Author.Rules.{rules}
 use borrow.Author.Tests.{eq-eqb, ne_eqb}
 use native.Mathlib.Omega.{arith}
 use lib.ListN.{length-take, length-drop}

@@ -1,5 +1,4 @@
 -- `vdom::class_scan` meets its contract: the walk over all handles, with no chain.
-use borrow.Author.Rules.{rules}
 use Rattle.vdom.proofs.Rows.{count_fits}
 use Rattle.vdom.proofs.class_scan.Goals as goal
 

@@ -1,5 +1,4 @@
 -- `vdom::counts` meets its contract: each arm asks what its variant means.
-use borrow.Author.Rules.{rules}
 use Rattle.vdom.proofs.counts.Goals as goal
 
 pub returns-in-Class : goal.returns-in-Class

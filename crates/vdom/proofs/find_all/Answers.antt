@@ -1,13 +1,11 @@
 -- `vdom::find_all` meets its contract: what was found among the first k handles stands at the front of the buffer (`Walked`).
 use borrow.Author.Rules.{rules}
 use mathlib.Core.Path.{refl, sym, ap, ◌∙◌}
-use Prim.Native.Nat.{◌+◌, ◌-◌, ◌≤◌}
+use Prim.Native.Nat.{◌+◌}
 use native.Mathlib.Omega.{arith}
 use lib.ListN.{length, length-replicate}
-use Rattle.scan.specs.Marks.{white_in}
 use Rattle.matching.proofs.Rows.{row_fits, row_placed}
-use Rattle.vdom.specs.Vdom.{row_asks}
-use Rattle.vdom.proofs.Walk.{Walked, walk_none, walk_size, walk_hit, walk_miss, walk_short, walk_end}
+use Rattle.vdom.proofs.Walk.{walk_none, walk_size, walk_hit, walk_miss, walk_short, walk_end}
 use Rattle.vdom.proofs.find_all.Goals as goal
 use Rattle.vdom.proofs.find_all.Goals.{then-counts+else-out-n, else-counts}
 
@@ -44,8 +42,8 @@ loop-k-preserved c = let w = c.loop-k.invariant.1 in
     let asked = rw c.row_at-row.ensures at c.counts.ensures in (
       search rules,
       elim c.if-counts.branch [
-        then-counts+else-out-n y ↦ walk_hit _ _ w _ refl (sym asked ∙ y.if-counts.true) y.if-out-n.false y.out-is y.n-is
-      | else-counts n ↦ walk_miss _ _ w _ refl (sym asked ∙ n.if-counts.false) n.out-is n.n-is
+        | then-counts+else-out-n y ↦ walk_hit _ _ w _ refl (sym asked ∙ y.if-counts.true) y.if-out-n.false y.out-is y.n-is
+        | else-counts n ↦ walk_miss _ _ w _ refl (sym asked ∙ n.if-counts.false) n.out-is n.n-is
       ],
     )
 

@@ -1,5 +1,4 @@
 -- `vdom::query` meets its contract: the walk over all handles.
-use borrow.Author.Rules.{rules}
 use Rattle.vdom.proofs.Rows.{count_fits}
 use Rattle.vdom.proofs.query.Goals as goal
 

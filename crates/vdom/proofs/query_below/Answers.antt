@@ -1,5 +1,4 @@
 -- `vdom::query_below` meets its contract: the handles after h up to its last are all rows of the table.
-use borrow.Author.Rules.{rules}
 use native.Mathlib.Numerals.{add-one}
 use native.Mathlib.Omega.{arith}
 use Rattle.matching.proofs.Rows.{row_fits}

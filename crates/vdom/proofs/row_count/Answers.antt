@@ -1,5 +1,4 @@
 -- `vdom::row_count` meets its contract: the word that it reads is below 2³².
-use borrow.Author.Rules.{rules}
 use native.Mathlib.Omega.{arith}
 use Rattle.vdom.proofs.row_count.Goals as goal
 

@@ -1,0 +1,3 @@
+pub mod White
+pub mod Compared
+pub mod Slots

@@ -1,0 +1,14 @@
+-- `profile::heads` meets its contract: the table has the first i names.
+use borrow.Author.Rules.{rules}
+use mathlib.Core.Path.{◌≡◌, refl}
+use Prim.Native.Nat.{◌≤◌, ◌-◌}
+use native.Mathlib.Omega.{arith}
+use Rattle.profile.specs.Made.{Filled}
+use Rattle.profile.proofs.Slots.{put_first}
+use Rattle.profile.proofs.heads.Given as goal
+
+abbrev pub invariant-loop-i : goal.invariant-loop-i
+invariant-loop-i l = (l.i ≤ 24) × Filled l.profile l.t l.i
+
+abbrev pub decreases-loop-i : goal.decreases-loop-i
+decreases-loop-i l = 24 - l.i

@@ -1,0 +1,30 @@
+-- `profile::is_name` meets its contract: a name of another length is not there, and one of the same is compared.
+use borrow.Author.Rules.{rules}
+use mathlib.Core.Path.{sym, ◌∙◌}
+use Prim.Native.Nat.{◌-◌}
+use native.Mathlib.Omega.{arith}
+use lib.ListN.{drop, length-take, length-drop}
+use Rattle.rules.specs.Scan.{part}
+use Rattle.rules.specs.Profile.{name_of}
+use Rattle.rules.proofs.Names.{agree_uneven}
+use Rattle.rules.proofs.Profile.{fine_facts}
+use Rattle.profile.proofs.Compared.{name_short, name_run}
+use Rattle.profile.proofs.is_name.Goals as goal
+
+pub returns-then-m-n : goal.returns-then-m-n
+returns-then-m-n c = let a = c.args in
+    let p = a.page.now in
+    agree_uneven (λ y. y) (part p a.a a.e) (name_of a.profile.now a.i)
+    (λ z. c.if-m-n.true (omega (arith, c.requires.3, c.requires.5, length-take (a.e - a.a) (drop a.a p), length-drop a.a p)))
+
+pub is_bytes-requires : goal.is_bytes-requires
+is_bytes-requires c = let a = c.args in
+    let m = name_short a.profile.now c.requires.0 a.i c.requires.1 in
+    (omega (arith, c.requires), omega (arith, c.requires, m, c.if-m-n.false), omega (arith, c.requires))
+
+pub returns : goal.returns
+returns c = let a = c.args in
+    let q = a.profile.now in
+    c.is_bytes.ensures
+    ∙ name_run q c.requires.0 a.i c.requires.1 (fine_facts q c.requires.2) a.page.now a.a a.e (omega (arith, c.requires.4)) c.requires.5
+    (sym c.requires.3 ∙ c.if-m-n.false)

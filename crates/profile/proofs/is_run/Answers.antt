@@ -1,0 +1,19 @@
+-- `profile::is_run` meets its contract: of the bytes before j.
+use mathlib.Core.Path.{◌≡◌, refl}
+use Prim.Native.Nat.{◌≤◌, ◌-◌}
+use native.Mathlib.Numerals.{add-one}
+use native.Mathlib.Omega.{arith}
+use Rattle.rules.specs.Sound.{all}
+use Rattle.profile.specs.Made.{same_run}
+use Rattle.profile.proofs.is_run.Goals as goal
+
+pub loop-j-preserved : goal.loop-j-preserved
+unfolding all
+loop-j-preserved c = (omega arith, rw (add-one, c.loop-j.invariant.1))
+
+pub returns : goal.returns
+returns c = let l = c.loop-j in let e : l.j ≡ c.args.k = omega (arith, c.loop-j-test.false) in rw e at l.invariant.1
+
+pub loop-j-init : goal.loop-j-init
+unfolding all
+loop-j-init c = (omega arith, refl)

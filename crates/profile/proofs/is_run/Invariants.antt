@@ -1,0 +1,14 @@
+-- `profile::is_run` meets its contract: of the bytes before j.
+use mathlib.Core.Path.{◌≡◌, refl}
+use Prim.Native.Nat.{◌≤◌, ◌-◌}
+use native.Mathlib.Numerals.{add-one}
+use native.Mathlib.Omega.{arith}
+use Rattle.rules.specs.Sound.{all}
+use Rattle.profile.specs.Made.{same_run}
+use Rattle.profile.proofs.is_run.Given as goal
+
+abbrev pub invariant-loop-j : goal.invariant-loop-j
+invariant-loop-j l = (l.j ≤ l.k) × (l.ok ≡ same_run l.p l.a l.q l.c l.j)
+
+abbrev pub decreases-loop-j : goal.decreases-loop-j
+decreases-loop-j l = l.k - l.j
