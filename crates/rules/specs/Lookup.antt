@@ -20,10 +20,10 @@ class_name = bytes "class"
 abbrev pub is_last : List ℕ → Bool
 is_last k = same k id_name || same k class_name
 
--- what an attribute holds, if without a value it holds `bare`
+-- what an attribute holds, if without a value it holds `alone`
 abbrev pub held_as : Held → Assigned → Held
-held_as bare Missing = bare
-held_as bare (Given a e) = Value a e
+held_as alone Missing = alone
+held_as alone (Given a e) = Value a e
 
 module _ (white : ℕ → Bool) (p : List ℕ) where
   -- the attributes from a place on, up to a `/` or `>` or the end of the page; each takes a byte or more
