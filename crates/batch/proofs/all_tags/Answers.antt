@@ -1,12 +1,8 @@
 -- `batch::all_tags` meets its contract: if a handle is no tag's, it is one of those from i on.
 use borrow.Author.Rules.{rules}
-use mathlib.Core.Path.{◌≡◌, refl, sym, ◌∙◌}
-use Prim.Native.Nat.{◌-◌, ◌≤◌}
+use mathlib.Core.Path.{refl, sym, ◌∙◌}
 use native.Mathlib.Omega.{arith}
-use borrow.Author.Tests.{not-true, not-false}
-use lib.ListN.{length, drop}
 use Rattle.rules.specs.Refusals.{not_a_tag}
-use Rattle.rules.specs.Batch.{some}
 use Rattle.batch.proofs.Handles.{some_next, some_end}
 use Rattle.batch.proofs.all_tags.Goals as goal
 

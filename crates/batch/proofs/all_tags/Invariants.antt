@@ -1,13 +1,9 @@
 -- `batch::all_tags` meets its contract: if a handle is no tag's, it is one of those from i on.
-use borrow.Author.Rules.{rules}
-use mathlib.Core.Path.{◌≡◌, refl, sym, ◌∙◌}
+use mathlib.Core.Path.{◌≡◌}
 use Prim.Native.Nat.{◌-◌, ◌≤◌}
-use native.Mathlib.Omega.{arith}
-use borrow.Author.Tests.{not-true, not-false}
 use lib.ListN.{length, drop}
 use Rattle.rules.specs.Refusals.{not_a_tag}
 use Rattle.rules.specs.Batch.{some}
-use Rattle.batch.proofs.Handles.{some_next, some_end}
 use Rattle.batch.proofs.all_tags.Given as goal
 
 abbrev pub invariant-loop-i : goal.invariant-loop-i

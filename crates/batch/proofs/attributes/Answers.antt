@@ -1,5 +1,4 @@
 -- `batch::attributes` meets its contract: the refusals first, then what `list_attributes` answers.
-use borrow.Author.Rules.{rules}
 use mathlib.Core.Path.{sym, ◌∙◌}
 use Rattle.rules.specs.Batch.{attributes_answer, attributes_buffer}
 use Rattle.batch.proofs.Checks.{tags_fine}

@@ -1,5 +1,4 @@
 -- `batch::attributes_for_names` meets its contract: the refusals first, then what `list_names` answers.
-use borrow.Author.Rules.{rules}
 use mathlib.Core.Path.{sym, ◌∙◌}
 use Rattle.rules.specs.Batch.{names_answer, names_buffer}
 use Rattle.batch.proofs.Checks.{tags_fine}

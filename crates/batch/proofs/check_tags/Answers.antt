@@ -1,5 +1,4 @@
 -- `batch::check_tags` meets its contract: what `check` answered, and then the test of the handles.
-use borrow.Author.Rules.{rules}
 use mathlib.Core.Path.{sym, ◌∙◌}
 use borrow.Author.Tests.{not-true, not-false}
 use Rattle.rules.specs.Scan.{pick}

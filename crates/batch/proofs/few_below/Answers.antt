@@ -1,7 +1,4 @@
 -- `batch::few_below` meets its contract: a tag's last handle is not below its own.
-use borrow.Author.Rules.{rules}
-use borrow.Author.Rules.{rules}
-use Prim.Native.Nat.{◌-◌, ◌≤◌}
 use native.Mathlib.Omega.{arith}
 use lib.ListN.{length}
 use Rattle.calls.proofs.Tags.{row_room}

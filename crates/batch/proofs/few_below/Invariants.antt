@@ -1,12 +1,6 @@
 -- `batch::few_below` meets its contract: a tag's last handle is not below its own.
-use borrow.Author.Rules.{rules}
-use borrow.Author.Rules.{rules}
 use Prim.Native.Nat.{◌-◌, ◌≤◌}
-use native.Mathlib.Omega.{arith}
 use lib.ListN.{length}
-use Rattle.calls.proofs.Tags.{row_room}
-use Rattle.rules.proofs.Sound.{sound_rows}
-use Rattle.batch.proofs.Handles.{tag_at}
 use Rattle.batch.proofs.few_below.Given as goal
 
 abbrev pub invariant-loop-i : goal.invariant-loop-i

@@ -1,9 +1,8 @@
 -- `batch::fill_skips` meets its contract: the places from j on are filled (`Filling`).
-use borrow.Author.Rules.{rules}
 use native.Mathlib.Omega.{arith}
 use lib.ListN.{length}
 use Rattle.rules.proofs.Sound.{sound_fits}
-use Rattle.batch.proofs.Skipping.{Filling, filling_none, filling_from, filling_more, filling_done}
+use Rattle.batch.proofs.Skipping.{filling_none, filling_from, filling_more, filling_done}
 use Rattle.batch.proofs.fill_skips.Goals as goal
 
 pub bounds-table-0 : goal.bounds-table-0

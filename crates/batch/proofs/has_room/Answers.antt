@@ -1,5 +1,4 @@
 -- `batch::has_room` meets its contract: without a name nothing is needed, else the quotients tell.
-use borrow.Author.Rules.{rules}
 use mathlib.Core.Path.{◌≡◌}
 use Prim.Native.Nat.{◌*◌}
 use native.Mathlib.Nat.{zero-mul}

@@ -1,5 +1,4 @@
 -- `batch::inner_texts` meets its contract: the refusals first, then what `list_texts` answers.
-use borrow.Author.Rules.{rules}
 use mathlib.Core.Path.{sym, ◌∙◌}
 use mathlib.Core.Bool.{◌||◌}
 use lib.Dec.{ltb}

@@ -1,5 +1,4 @@
 -- `batch::list_attributes` meets its contract: a third of the words is fewer than the handles where three words each do not fit.
-use borrow.Author.Rules.{rules}
 use Prim.Native.Nat.{◌*◌}
 use native.Mathlib.Omega.{arith}
 use borrow.Author.Tests.{lt-ltb, le-ltb}

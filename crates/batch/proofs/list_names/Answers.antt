@@ -1,5 +1,4 @@
 -- `batch::list_names` meets its contract: the test of the room is the answer's.
-use borrow.Author.Rules.{rules}
 use mathlib.Core.Path.{sym, ◌∙◌}
 use Prim.Native.Nat.{◌*◌}
 use borrow.Author.Tests.{not-true, not-false, ltb-false}

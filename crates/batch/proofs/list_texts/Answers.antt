@@ -1,5 +1,4 @@
 -- `batch::list_texts` meets its contract: the places are counted before anything is written.
-use borrow.Author.Rules.{rules}
 use borrow.Author.Tests.{lt-ltb, le-ltb}
 use lib.ListN.{length}
 use Rattle.batch.proofs.list_texts.Goals as goal

@@ -1,11 +1,6 @@
 -- `batch::lowest_text` meets its contract: the rows from k up to the lowest have no text.
-use borrow.Author.Rules.{rules}
-use native.Mathlib.Omega.{arith}
-use mathlib.Core.Path.{◌≡◌}
 use Prim.Native.Nat.{◌≤◌}
-use Rattle.tag.proofs.Texts.{fits, row}
 use Rattle.batch.specs.Batch.{Passes}
-use Rattle.batch.proofs.Skipping.{no_text, pass_text, pass_row}
 use Rattle.batch.proofs.lowest_text.Given as goal
 
 abbrev pub invariant-loop-k : goal.invariant-loop-k

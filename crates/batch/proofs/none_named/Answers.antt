@@ -2,13 +2,8 @@
 use borrow.Author.Rules.{rules}
 use mathlib.Core.Path.{◌≡◌}
 use borrow.Author.Count.{below_more}
-use mathlib.Core.List.{List}
-use Prim.Native.Nat.{ℕ, ◌-◌, ◌≤◌, ◌<◌}
+use Prim.Native.Nat.{ℕ}
 use native.Mathlib.Omega.{arith}
-use lib.ListN.{length, get_or}
-use Rattle.rules.specs.Scan.{part}
-use Rattle.rules.specs.Words.{Within}
-use Rattle.rules.specs.Table.{node_at}
 use Rattle.calls.proofs.Tags.{row_room, opening}
 use Rattle.batch.proofs.Handles.{tag_at}
 use Rattle.batch.proofs.none_named.Goals as goal

@@ -1,16 +1,10 @@
 -- `batch::none_named` meets its contract: what all names begin with stands in the opening of none of the first i handles.
-use borrow.Author.Rules.{rules}
-use mathlib.Core.Path.{◌≡◌}
-use borrow.Author.Count.{below_more}
 use mathlib.Core.List.{List}
 use Prim.Native.Nat.{ℕ, ◌-◌, ◌≤◌, ◌<◌}
-use native.Mathlib.Omega.{arith}
 use lib.ListN.{length, get_or}
 use Rattle.rules.specs.Scan.{part}
 use Rattle.rules.specs.Words.{Within}
 use Rattle.rules.specs.Table.{node_at}
-use Rattle.calls.proofs.Tags.{row_room, opening}
-use Rattle.batch.proofs.Handles.{tag_at}
 use Rattle.batch.proofs.none_named.Given as goal
 
 -- k does not stand in the opening of the handle at j

@@ -1,11 +1,10 @@
 -- `batch::put_attributes` meets its contract: what is left to be written, from `at` on, is what the handles from i on hold.
 use borrow.Author.Rules.{rules}
-use Prim.Native.Nat.{◌-◌, ◌≤◌}
 use native.Mathlib.Omega.{arith}
-use lib.ListN.{length, drop, get_or}
+use lib.ListN.{get_or}
 use Rattle.rules.specs.Lists.{each}
 use Rattle.rules.specs.Batch.{attributes_found}
-use Rattle.rules.proofs.Buffers.{Left, left_all}
+use Rattle.rules.proofs.Buffers.{left_all}
 use Rattle.calls.proofs.Tags.{row_room, opening}
 use Rattle.batch.proofs.Handles.{room_next, left_next, left_end, length_each, tag_at}
 use Rattle.batch.proofs.Three.{three, three_length, three_held, held_inside}

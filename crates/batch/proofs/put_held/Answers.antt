@@ -1,5 +1,4 @@
 -- `batch::put_held` meets its contract: the lent part has three words.
-use borrow.Author.Rules.{rules}
 use native.Mathlib.Omega.{arith}
 use Rattle.rules.specs.Refusals.{held_numbers}
 use Rattle.attributes.proofs.Words.{held_length}

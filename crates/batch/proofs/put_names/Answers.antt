@@ -1,6 +1,5 @@
 -- `batch::put_names` meets its contract: as many words are cleared as the names of all handles want, and these are written. Where no
 -- tag may have any of the names, they are zero as they are.
-use borrow.Author.Rules.{rules}
 use mathlib.Core.Path.{◌≡◌, ap, sym, ◌∙◌}
 use mathlib.Core.List.{List, ◌++◌}
 use Prim.Native.Nat.{ℕ, ◌*◌, ◌-◌}

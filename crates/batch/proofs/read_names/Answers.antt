@@ -1,7 +1,7 @@
 -- `batch::read_names` meets its contract: the words of the first i handles are written, the others are zero yet.
 use borrow.Author.Rules.{rules}
-use mathlib.Core.Path.{◌≡◌, ◌∙◌}
-use Prim.Native.Nat.{◌+◌, ◌*◌, ◌-◌, ◌≤◌}
+use mathlib.Core.Path.{◌∙◌}
+use Prim.Native.Nat.{◌+◌, ◌*◌, ◌≤◌}
 use native.Mathlib.Omega.{arith}
 use borrow.Author.Tests.{ltb-false}
 use lib.ListN.{length, get_or}
@@ -11,7 +11,7 @@ use Rattle.rules.proofs.Asking.{SoundTag}
 use Rattle.calls.proofs.Tags.{row_room, opening}
 use Rattle.batch.proofs.Handles.{tag_at}
 use Rattle.batch.proofs.Names.{words, words_length, words_tag}
-use Rattle.batch.proofs.Cleared.{Done, done_none, done_all, done_room, done_zeros, done_more}
+use Rattle.batch.proofs.Cleared.{done_none, done_all, done_room, done_zeros, done_more}
 use Rattle.batch.proofs.read_names.Goals as goal
 use Rattle.batch.proofs.read_names.Goals.{In-loop-i}
 

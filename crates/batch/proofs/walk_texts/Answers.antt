@@ -1,5 +1,4 @@
 -- `batch::walk_texts` meets its contract: there are as many places as the rows want, each for one row or for several.
-use borrow.Author.Rules.{rules}
 use native.Mathlib.Omega.{arith}
 use native.Mathlib.Nat.{div-le_self}
 use Prim.Native.Nat.{ℕ, ◌+◌, ◌-◌, ◌/◌, ◌<◌}

@@ -1,11 +1,9 @@
 -- `calls::attribute` meets its contract: the marks are the paper's, and a tag's row has its places in order.
-use borrow.Author.Rules.{rules}
 use mathlib.Core.Path.{sym, ap, ◌∙◌}
 use Rattle.rules.specs.Bytes.{is_white}
 use Rattle.rules.specs.Table.{node_at}
 use Rattle.rules.specs.Lookup.{lookup}
 use Rattle.rules.specs.Answers.{attribute_answer}
-use Rattle.rules.specs.declared.Node.{Node}
 use Rattle.rules.specs.declared.Asked.TheVariants.{Holds, Refused}
 use Rattle.rules.proofs.Asking.{was_fine_tag, was_refused_tag, answered_tag}
 use Rattle.calls.proofs.Tags.{row_room, opening}

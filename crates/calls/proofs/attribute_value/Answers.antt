@@ -1,5 +1,4 @@
 -- `calls::attribute_value` meets its contract: a value that `attribute` answers lies in the page.
-use borrow.Author.Rules.{rules}
 use mathlib.Core.Path.{sym, ◌∙◌}
 use Rattle.rules.specs.Bytes.{is_white}
 use Rattle.rules.specs.Answers.{attribute_part}

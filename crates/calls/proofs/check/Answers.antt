@@ -1,5 +1,4 @@
 -- `calls::check` meets its contract: the two tests, in order.
-use borrow.Author.Rules.{rules}
 use mathlib.Core.Path.{sym, ◌∙◌}
 use borrow.Author.Tests.{lt-ltb, le-ltb}
 use lib.ListN.{length}

@@ -1,5 +1,4 @@
 -- `calls::check_tag` meets its contract: what `check` answered, and then the test of the handle.
-use borrow.Author.Rules.{rules}
 use mathlib.Core.Path.{sym, ◌∙◌}
 use Rattle.rules.specs.Scan.{pick}
 use Rattle.rules.specs.Refusals.{not_a_tag}

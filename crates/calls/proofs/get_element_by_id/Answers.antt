@@ -1,5 +1,4 @@
 -- `calls::get_element_by_id` meets its contract: the refusals first, then the lookup in its manner.
-use borrow.Author.Rules.{rules}
 use mathlib.Core.Path.{sym, ◌∙◌}
 use Rattle.rules.specs.Bytes.{is_white}
 use Rattle.rules.specs.Finds.{by_id}

@@ -1,5 +1,4 @@
 -- `calls::get_elements_by_class_name` meets its contract: the refusals first, then what `list_class` answers.
-use borrow.Author.Rules.{rules}
 use mathlib.Core.Path.{sym, ◌∙◌}
 use lib.ListN.{length}
 use Rattle.rules.specs.Bytes.{is_white}

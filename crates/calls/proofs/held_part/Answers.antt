@@ -1,5 +1,4 @@
 -- `calls::held_part` meets its contract: by the cases of what is held.
-use borrow.Author.Rules.{rules}
 use native.Mathlib.Omega.{arith}
 use Rattle.calls.proofs.held_part.Goals as goal
 

@@ -1,5 +1,4 @@
 -- `calls::inner_text` meets its contract: the refusals first, then what `write_text` answers.
-use borrow.Author.Rules.{rules}
 use mathlib.Core.Path.{sym, ◌∙◌}
 use lib.ListN.{length}
 use Rattle.rules.specs.Text.{inner_text}

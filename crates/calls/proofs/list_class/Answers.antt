@@ -1,5 +1,4 @@
 -- `calls::list_class` meets its contract: the lookup in its manner.
-use borrow.Author.Rules.{rules}
 use Rattle.calls.proofs.list_class.Goals as goal
 
 pub returns-in-Scan : goal.returns-in-Scan

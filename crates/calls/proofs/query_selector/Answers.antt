@@ -1,5 +1,4 @@
 -- `calls::query_selector` meets its contract: the refusals first, then what `select` answers.
-use borrow.Author.Rules.{rules}
 use mathlib.Core.Path.{sym, ◌∙◌}
 use lib.ListN.{length}
 use Rattle.rules.specs.Bytes.{is_white}

@@ -1,5 +1,4 @@
 -- `calls::range` meets its contract: a tag of a sound table has its row.
-use borrow.Author.Rules.{rules}
 use mathlib.Core.Path.{sym, ap, ◌∙◌}
 use Rattle.rules.specs.Sound.{last_at}
 use Rattle.rules.specs.Answers.{range_of, range_answer}

@@ -1,5 +1,4 @@
 -- `calls::select` meets its contract: what the selector reader answered, and then the walk over the scope.
-use borrow.Author.Rules.{rules}
 use native.Mathlib.Omega.{arith}
 use Rattle.rules.specs.Query.{over_page, below_tag}
 use Rattle.rules.specs.Bytes.{is_white}

@@ -1,11 +1,5 @@
 -- `decimal::skip_digits` meets its contract: the run from `at` is the run from i.
-use borrow.Author.Rules.{rules}
-use mathlib.Core.Path.{◌≡◌, refl}
-use Prim.Native.Nat.{◌-◌}
-use lib.ListN.{length}
-use Rattle.rules.specs.Scan.{skip}
 use Rattle.rules.proofs.Runs.{again, stopped, ended, answered}
-use Rattle.decimal.specs.Digits.{is_digit}
 use Rattle.decimal.proofs.skip_digits.Goals as goal
 
 pub loop-i-preserved : goal.loop-i-preserved

@@ -1,10 +1,10 @@
 -- `decimal::value` meets its contract. The invariant: with the digits left, n says the same number, both kept at 2^32.
 use borrow.Author.Rules.{rules}
-use Prim.Native.Nat.{◌≤◌, ◌-◌, min}
+use Prim.Native.Nat.{◌≤◌}
 use native.Mathlib.Omega.{arith}
-use mathlib.Core.Path.{◌≡◌, refl, ◌∙◌}
-use lib.ListN.{length, drop, drop_of_length-le}
-use Rattle.decimal.specs.Digits.{value_from, limit}
+use mathlib.Core.Path.{refl, ◌∙◌}
+use lib.ListN.{length, drop_of_length-le}
+use Rattle.decimal.specs.Digits.{value_from}
 use Rattle.decimal.proofs.Numbers.{digit_more}
 use Rattle.decimal.proofs.value.Goals as goal
 

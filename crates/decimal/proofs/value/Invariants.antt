@@ -1,11 +1,8 @@
 -- `decimal::value` meets its contract. The invariant: with the digits left, n says the same number, both kept at 2^32.
-use borrow.Author.Rules.{rules}
 use Prim.Native.Nat.{◌≤◌, ◌-◌, min}
-use native.Mathlib.Omega.{arith}
-use mathlib.Core.Path.{◌≡◌, refl, ◌∙◌}
-use lib.ListN.{length, drop, drop_of_length-le}
+use mathlib.Core.Path.{◌≡◌}
+use lib.ListN.{length, drop}
 use Rattle.decimal.specs.Digits.{value_from, limit}
-use Rattle.decimal.proofs.Numbers.{digit_more}
 use Rattle.decimal.proofs.value.Given as goal
 
 abbrev pub invariant-loop-i : goal.invariant-loop-i

@@ -1,5 +1,4 @@
 -- `fullpage::answer` meets its contract: the page that is asked for is filled in, or `refused` is put.
-use borrow.Author.Rules.{rules}
 use native.Mathlib.Omega.{arith}
 use mathlib.Core.Path.{sym, ◌∙◌}
 use Rattle.fullpage.proofs.Writing.{asked_short, writes_all, page_put}

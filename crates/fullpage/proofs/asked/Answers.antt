@@ -1,5 +1,4 @@
 -- `fullpage::asked` meets its contract: by the number that was read and the tests of it.
-use borrow.Author.Rules.{rules}
 use native.Mathlib.Omega.{arith}
 use borrow.Author.Tests.{lt-leb, le-leb}
 use Rattle.rules.specs.Refusals.{page_limit}

@@ -1,5 +1,4 @@
 -- `fullpage::ends` meets its contract: by the tests of the place.
-use borrow.Author.Rules.{rules}
 use native.Mathlib.Numerals.{add-one}
 use lib.ListN.{length}
 use borrow.Author.Tests.{eq-eqb, ne_eqb, lt-ltb, le-ltb}

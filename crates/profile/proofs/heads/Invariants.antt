@@ -1,10 +1,6 @@
 -- `profile::heads` meets its contract: the table has the first i names.
-use borrow.Author.Rules.{rules}
-use mathlib.Core.Path.{◌≡◌, refl}
 use Prim.Native.Nat.{◌≤◌, ◌-◌}
-use native.Mathlib.Omega.{arith}
 use Rattle.profile.specs.Made.{Filled}
-use Rattle.profile.proofs.Slots.{put_first}
 use Rattle.profile.proofs.heads.Given as goal
 
 abbrev pub invariant-loop-i : goal.invariant-loop-i

@@ -1,5 +1,4 @@
 -- `profile::is_both` meets its contract: the two runs are all of the bytes.
-use borrow.Author.Rules.{rules}
 use mathlib.Core.Path.{◌∙◌, ap₂}
 use mathlib.Core.Bool.{◌&&◌}
 use Rattle.profile.proofs.Compared.{both_runs}

@@ -1,5 +1,4 @@
 -- `profile::is_bytes` meets its contract: a short name by both its ends, a longer one as a part.
-use borrow.Author.Rules.{rules}
 use mathlib.Core.Path.{◌∙◌}
 use Rattle.profile.proofs.Compared.{part_runs}
 use Rattle.profile.proofs.is_bytes.Goals as goal

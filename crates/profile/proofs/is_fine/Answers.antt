@@ -1,6 +1,5 @@
 -- `profile::is_fine` meets its contract: tl's profile is fine, and any other is tested byte by byte.
-use borrow.Author.Rules.{rules}
-use mathlib.Core.Path.{◌≡◌, sym}
+use mathlib.Core.Path.{sym}
 use Rattle.rules.proofs.Profile.{fine_tl}
 use Rattle.profile.proofs.is_fine.Goals as goal
 

@@ -2,15 +2,13 @@
 use borrow.Author.Rules.{rules}
 use borrow.Author.Tests.{lt-ltb, le-ltb}
 use mathlib.Core.Path.{◌≡◌, sym, ap, ◌∙◌}
-use mathlib.Core.Bool.{true}
 use mathlib.Core.List.{List}
 use Prim.Native.Nat.{ℕ, ◌+◌, ◌-◌, ◌≤◌, ◌<◌}
 use native.Mathlib.Omega.{arith}
-use lib.Dec.{ltb}
 use lib.ListN.{length, get_or, drop, length-take, length-drop}
 use Rattle.rules.specs.Scan.{part}
 use Rattle.rules.specs.Profile.{void_of}
-use Rattle.profile.proofs.Slots.{slot_part, Ahead, ahead_first, ahead_next, one_hit, none_hit}
+use Rattle.profile.proofs.Slots.{slot_part, ahead_first, ahead_next, one_hit, none_hit}
 use Rattle.profile.proofs.is_listed.Goals as goal
 use Rattle.profile.proofs.is_listed.Goals.{After-wide-i-in-loop-i}
 

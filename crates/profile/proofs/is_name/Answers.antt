@@ -1,5 +1,4 @@
 -- `profile::is_name` meets its contract: a name of another length is not there, and one of the same is compared.
-use borrow.Author.Rules.{rules}
 use mathlib.Core.Path.{sym, ◌∙◌}
 use Prim.Native.Nat.{◌-◌}
 use native.Mathlib.Omega.{arith}

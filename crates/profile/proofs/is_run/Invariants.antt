@@ -1,9 +1,6 @@
 -- `profile::is_run` meets its contract: of the bytes before j.
-use mathlib.Core.Path.{◌≡◌, refl}
+use mathlib.Core.Path.{◌≡◌}
 use Prim.Native.Nat.{◌≤◌, ◌-◌}
-use native.Mathlib.Numerals.{add-one}
-use native.Mathlib.Omega.{arith}
-use Rattle.rules.specs.Sound.{all}
 use Rattle.profile.specs.Made.{same_run}
 use Rattle.profile.proofs.is_run.Given as goal
 

@@ -1,6 +1,5 @@
 -- `profile::limit` meets its contract: byte by byte.
 use Rattle.rules.specs.Profile.{limit_of}
-use borrow.Author.Rules.{rules}
 use Rattle.profile.proofs.limit.Goals as goal
 
 pub returns : goal.returns

@@ -1,5 +1,4 @@
 -- `profile::mark_table` meets its contract: byte by byte.
-use borrow.Author.Rules.{rules}
 use mathlib.Core.Path.{refl}
 use mathlib.Core.Bool.{true, false}
 use native.Mathlib.Omega.{arith}

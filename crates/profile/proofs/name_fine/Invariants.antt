@@ -1,11 +1,8 @@
 -- `profile::name_fine` meets its contract: the bytes before j are fine.
-use borrow.Author.Rules.{rules}
-use mathlib.Core.Path.{◌≡◌, refl, ap, sym, ◌∙◌}
+use mathlib.Core.Path.{◌≡◌}
 use Prim.Native.Nat.{◌≤◌, ◌-◌}
-use native.Mathlib.Omega.{arith}
-use native.Mathlib.Numerals.{add-one}
 use Rattle.rules.specs.Sound.{all}
-use Rattle.rules.specs.Profile.{name_byte_fine, name_fine}
+use Rattle.rules.specs.Profile.{name_byte_fine}
 use Rattle.profile.proofs.name_fine.Given as goal
 
 abbrev pub invariant-loop-j : goal.invariant-loop-j

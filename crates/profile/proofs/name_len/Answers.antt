@@ -1,8 +1,7 @@
 -- `profile::name_len` meets its contract: the byte before n is not 0.
 use mathlib.Core.Path.{◌≡◌}
-use Prim.Native.Nat.{◌+◌, ◌-◌, ◌≤◌, ◌<◌}
+use Prim.Native.Nat.{◌+◌, ◌-◌}
 use native.Mathlib.Omega.{arith}
-use Rattle.rules.specs.Profile.{name_start, name_byte}
 use Rattle.rules.proofs.Profile.{fine_facts}
 use Rattle.profile.proofs.Compared.{name_ends}
 use Rattle.profile.proofs.name_len.Goals as goal

@@ -1,10 +1,7 @@
 -- `profile::name_len` meets its contract: the byte before n is not 0.
 use mathlib.Core.Path.{◌≡◌}
-use Prim.Native.Nat.{◌+◌, ◌-◌, ◌≤◌, ◌<◌}
-use native.Mathlib.Omega.{arith}
-use Rattle.rules.specs.Profile.{name_start, name_byte}
-use Rattle.rules.proofs.Profile.{fine_facts}
-use Rattle.profile.proofs.Compared.{name_ends}
+use Prim.Native.Nat.{◌-◌, ◌≤◌, ◌<◌}
+use Rattle.rules.specs.Profile.{name_byte}
 use Rattle.profile.proofs.name_len.Given as goal
 
 abbrev pub invariant-loop-n : goal.invariant-loop-n

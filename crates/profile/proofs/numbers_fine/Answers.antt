@@ -1,5 +1,4 @@
 -- `profile::numbers_fine` meets its contract.
-use borrow.Author.Rules.{rules}
 use Rattle.rules.specs.Profile.{numbers_fine}
 use Rattle.profile.proofs.numbers_fine.Goals as goal
 

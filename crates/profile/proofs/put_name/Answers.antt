@@ -1,6 +1,5 @@
 -- `profile::put_name` meets its contract: there is no name, or it is put at its slot.
-use borrow.Author.Rules.{rules}
-use mathlib.Core.Path.{refl, sym, ◌∙◌}
+use mathlib.Core.Path.{refl, ◌∙◌}
 use native.Mathlib.Omega.{arith}
 use Rattle.rules.proofs.Profile.{fine_facts}
 use Rattle.profile.proofs.Slots.{slot_name, put_none, put_some}

@@ -1,5 +1,4 @@
 -- `profile::slot` meets its contract.
-use borrow.Author.Rules.{rules}
 use native.Mathlib.Nat.{mod-lt}
 use native.Mathlib.Omega.{arith}
 use Rattle.profile.proofs.slot.Goals as goal

@@ -1,5 +1,4 @@
 -- `records::number_before` meets its contract: by what was found at each place.
-use borrow.Author.Rules.{rules}
 use Rattle.records.specs.Records.{number_before}
 use Rattle.records.proofs.number_before.Goals as goal
 

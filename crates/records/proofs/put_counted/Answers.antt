@@ -1,5 +1,4 @@
 -- `records::put_counted` meets its contract: its texts one after the other.
-use borrow.Author.Rules.{rules}
 use Rattle.lines.proofs.Laws.{then}
 use Rattle.records.proofs.put_counted.Goals as goal
 

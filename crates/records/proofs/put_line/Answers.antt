@@ -1,5 +1,4 @@
 -- `records::put_line` meets its contract: its texts one after the other.
-use borrow.Author.Rules.{rules}
 use Rattle.rules.specs.Lists.{each}
 use Rattle.lines.proofs.Laws.{then}
 use Rattle.records.specs.Printed.{line}

@@ -1,10 +1,7 @@
 -- `records::put_words` meets its contract. The invariant: the first i values are written.
-use borrow.Author.Rules.{rules}
-use Prim.Native.Nat.{◌-◌}
 use native.Mathlib.Omega.{arith}
-use lib.ListN.{length}
 use Rattle.lines.proofs.Laws.{same_size}
-use Rattle.records.proofs.Fields.{Passed, no_field, one_more, all_fields}
+use Rattle.records.proofs.Fields.{no_field, one_more, all_fields}
 use Rattle.records.proofs.put_words.Goals as goal
 
 pub loop-i-init : goal.loop-i-init

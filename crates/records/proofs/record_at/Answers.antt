@@ -1,5 +1,4 @@
 -- `records::record_at` meets its contract: by what was found at each place.
-use borrow.Author.Rules.{rules}
 use native.Mathlib.Omega.{arith}
 use mathlib.Core.Path.{sym, ◌∙◌}
 use Rattle.records.specs.Records.{record_at}

@@ -1,9 +1,7 @@
 -- `records::words_at` meets its contract. The invariant: the first i numbers are read.
-use borrow.Author.Rules.{rules}
 use Prim.Native.Nat.{◌-◌}
-use native.Mathlib.Omega.{arith}
 use lib.ListN.{length}
-use Rattle.records.proofs.Several.{Stored, nothing, one_number, no_number, all_numbers}
+use Rattle.records.proofs.Several.{Stored}
 use Rattle.records.proofs.words_at.Given as goal
 
 abbrev pub invariant-loop-i : goal.invariant-loop-i

@@ -1,5 +1,4 @@
 -- `replay::answer_at` meets its contract: a record lies in the input, and what it is lent in the buffers.
-use borrow.Author.Rules.{rules}
 use native.Mathlib.Omega.{arith}
 use mathlib.Core.Path.{sym}
 use lib.Seq.{length-take-le}

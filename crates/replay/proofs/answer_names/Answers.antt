@@ -1,5 +1,4 @@
 -- `replay::answer_names` is safe: the part of the buffer has the size that the record asks for.
-use borrow.Author.Rules.{rules}
 use native.Mathlib.Omega.{arith}
 use mathlib.Core.Path.{sym}
 use lib.Seq.{length-take-le}

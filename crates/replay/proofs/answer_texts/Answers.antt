@@ -1,5 +1,4 @@
 -- `replay::answer_texts` is safe: the parts of the buffers have the sizes that the record asks for.
-use borrow.Author.Rules.{rules}
 use native.Mathlib.Omega.{arith}
 use mathlib.Core.Path.{sym}
 use lib.Seq.{length-take-le}

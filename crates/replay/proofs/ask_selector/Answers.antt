@@ -1,5 +1,4 @@
 -- `replay::ask_selector` meets its contract: what the call answers, in numbers, and the buffer that it leaves.
-use borrow.Author.Rules.{rules}
 use Rattle.replay.proofs.Writing.{prints}
 use Rattle.replay.proofs.ask_selector.Goals as goal
 

@@ -1,5 +1,4 @@
 -- `replay::ask_text` meets its contract: what the call answers, in numbers, and the buffer that it leaves.
-use borrow.Author.Rules.{rules}
 use Rattle.lines.proofs.Laws.{then}
 use Rattle.records.proofs.Fields.{listed}
 use Rattle.replay.proofs.Writing.{prints}

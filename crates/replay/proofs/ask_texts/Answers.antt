@@ -1,5 +1,4 @@
 -- `replay::ask_texts` meets its contract: what the call answers, in numbers, and the buffers that it leaves.
-use borrow.Author.Rules.{rules}
 use Rattle.lines.proofs.Laws.{then}
 use Rattle.records.proofs.Fields.{listed, then_fields}
 use Rattle.replay.proofs.Writing.{prints_both}

@@ -1,5 +1,4 @@
 -- `replay::damage` meets its contract: nothing is set past the end.
-use borrow.Author.Rules.{rules}
 use native.Mathlib.Omega.{arith}
 use mathlib.Core.Path.{sym}
 use lib.Seq.{set_out}

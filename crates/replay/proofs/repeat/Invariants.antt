@@ -1,12 +1,7 @@
 -- `replay::repeat` meets its contract. The invariant: the text is written i times.
-use borrow.Author.Rules.{rules}
 use Prim.Native.Nat.{◌≤◌, ◌-◌}
-use native.Mathlib.Omega.{arith}
-use mathlib.Core.Path.{◌≡◌}
 use Rattle.lines.specs.Writes.{Writes}
-use Rattle.lines.proofs.Laws.{none, same_size}
 use Rattle.replay.specs.Lending.{repeated}
-use Rattle.replay.proofs.Writing.{repeated_none, then_again}
 use Rattle.replay.proofs.repeat.Given as goal
 
 abbrev pub invariant-loop-i : goal.invariant-loop-i

@@ -1,7 +1,5 @@
 -- `replay::replay` is safe and ends: at most as many records as bytes were passed, and what is lent lies in the buffers.
-use borrow.Author.Rules.{rules}
 use mathlib.Core.Path.{◌≡◌}
-use native.Mathlib.Omega.{arith}
 use Prim.Native.Nat.{◌≤◌, ◌-◌}
 use lib.ListN.{length}
 use Rattle.replay.proofs.replay.Given as goal

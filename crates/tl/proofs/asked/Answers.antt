@@ -1,5 +1,4 @@
 -- `tl::asked` meets its contract: by the cases of the answer.
-use borrow.Author.Rules.{rules}
 use Rattle.tl.proofs.asked.Goals as goal
 
 pub returns-in-Holds : goal.returns-in-Holds

@@ -1,5 +1,4 @@
 -- `tl::counted` meets its contract: by the cases of the answer.
-use borrow.Author.Rules.{rules}
 use Rattle.tl.proofs.counted.Goals as goal
 
 pub returns-in-Refused : goal.returns-in-Refused

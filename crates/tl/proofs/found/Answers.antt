@@ -1,5 +1,4 @@
 -- `tl::found` meets its contract: by the cases of the answer.
-use borrow.Author.Rules.{rules}
 use Rattle.tl.proofs.found.Goals as goal
 
 pub returns-in-At : goal.returns-in-At

@@ -1,5 +1,4 @@
 -- `tl::held` meets its contract: by the cases of what is held.
-use borrow.Author.Rules.{rules}
 use Rattle.tl.proofs.held.Goals as goal
 
 pub returns-in-Value : goal.returns-in-Value

@@ -1,5 +1,4 @@
 -- `tl::ranged` meets its contract: by the cases of the answer; a range ascends, so that it can be counted.
-use borrow.Author.Rules.{rules}
 use native.Mathlib.Omega.{arith}
 use mathlib.Core.Path.{◌≡◌}
 use Prim.Native.Nat.{ℕ, suc, ◌+◌}

@@ -1,5 +1,4 @@
 -- `tl::tl_attribute` meets its contract: what the call answers, in numbers.
-use borrow.Author.Rules.{rules}
 use mathlib.Core.Path.{ap, ◌∙◌}
 use Rattle.rules.specs.Refusals.{asked_numbers}
 use Rattle.tl.proofs.tl_attribute.Goals as goal

@@ -1,5 +1,4 @@
 -- `tl::tl_attributes` meets its contract: what the call answers, in numbers.
-use borrow.Author.Rules.{rules}
 use mathlib.Core.Path.{ap, ◌∙◌}
 use Rattle.rules.specs.Refusals.{counted_numbers}
 use Rattle.tl.proofs.tl_attributes.Goals as goal

@@ -1,5 +1,4 @@
 -- `tl::tl_get_element_by_id` meets its contract: what the call answers, in numbers.
-use borrow.Author.Rules.{rules}
 use mathlib.Core.Path.{◌∙◌}
 use Rattle.tl.proofs.tl_get_element_by_id.Goals as goal
 

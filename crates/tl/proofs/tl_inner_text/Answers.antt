@@ -1,5 +1,4 @@
 -- `tl::tl_inner_text` meets its contract: what the call answers, in numbers.
-use borrow.Author.Rules.{rules}
 use mathlib.Core.Path.{ap, ◌∙◌}
 use Rattle.rules.specs.Refusals.{counted_numbers}
 use Rattle.tl.proofs.tl_inner_text.Goals as goal

@@ -1,5 +1,4 @@
 -- `tl::tl_parse_query_selector` meets its contract: what the call answers, in numbers.
-use borrow.Author.Rules.{rules}
 use mathlib.Core.Path.{ap, ◌∙◌}
 use Rattle.rules.specs.Refusals.{counted_numbers}
 use Rattle.tl.proofs.tl_parse_query_selector.Goals as goal

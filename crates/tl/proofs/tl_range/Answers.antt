@@ -1,5 +1,4 @@
 -- `tl::tl_range` meets its contract: what the call answers, in numbers.
-use borrow.Author.Rules.{rules}
 use mathlib.Core.Path.{ap, ◌∙◌}
 use Rattle.rules.specs.Bytes.{is_white}
 use Rattle.rules.specs.Refusals.{ranged_numbers}
