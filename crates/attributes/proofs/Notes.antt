@@ -38,7 +38,8 @@ module _ (white : ℕ → Bool) (p k : List ℕ) where
   last_noted y v [] = refl
   last_noted y v (a ∷ rest) =
       last_noted y (noted p a k v) rest
-      ∙ ap (λ (b : Bool). last_of white p k (pick (same (part p a.name a.stop) k) (pick b (held_as Absent a.value) (first_held v (held_as Bare a.value))) v) rest) y
+      ∙ ap (λ (b : Bool). last_of white p k
+      (pick (same (part p a.name a.stop) k) (pick b (held_as Absent a.value) (first_held v (held_as Bare a.value))) v) rest) y
 
   first_noted : is_last k ≡ false → (v : Held) (xs : List Attribute) → all_noted p k v xs ≡ first_held v (first_of white p k xs)
   unfolding first_of
@@ -48,7 +49,9 @@ module _ (white : ℕ → Bool) (p k : List ℕ) where
       more : Held
       more = first_of white p k rest
 
-      go : (b : Bool) → first_held (pick b (pick (is_last k) (held_as Absent a.value) (first_held v (held_as Bare a.value))) v) more ≡ first_held v (pick b (held_as Bare a.value) more)
+      go : (b : Bool)
+          → first_held (pick b (pick (is_last k) (held_as Absent a.value) (first_held v (held_as Bare a.value))) v) more
+          ≡ first_held v (pick b (held_as Bare a.value) more)
       go true = rw n (first_value v a.value more)
       go false = refl
 

@@ -63,7 +63,8 @@ module _ (s es : List ℕ) where
             inside = λ i. stored (λ c. c < many → c ≤ n + 1) i (λ e u. omega (arith, (new u).1)) (λ u. omega (arith, d.inside i u));
           }
         where
-          lead : (j : ℕ) → j < n + 1 → Dec (j ≡ n) → get_or (set t at v) (slot_of (name_at s es j)) 0 < many → get_or (set t at v) (slot_of (name_at s es j)) 0 ≡ suc j
+          lead : (j : ℕ) → j < n + 1 → Dec (j ≡ n) → get_or (set t at v) (slot_of (name_at s es j)) 0 < many
+              → get_or (set t at v) (slot_of (name_at s es j)) 0 ≡ suc j
           lead j l (yes e) = rw (e, ← q, get_or-set_same t at v 0 m) (λ u. (new u).1)
           lead j l (no e) =
               stored (λ c. c < many → c ≡ suc j) (slot_of (name_at s es j)) (λ i u. absurd (old j (omega arith) i u)) (d.leads j (omega arith))

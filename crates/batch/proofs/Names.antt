@@ -35,12 +35,15 @@ module _ (p ws s es : List ℕ) where
   words_all hs = length_each words (3 * length es) words_length hs ∙ omega arith
 
   -- what the handles from i on hold is left to be written: there is room for the words of the next
-  pub words_room : (hs : List ℕ) (i : ℕ) {d₀ s₀ d : List ℕ} {at : ℕ} → Left d₀ 0 s₀ d at (each words (drop i hs)) → i < length hs → at + 3 * length es ≤ length d
+  pub words_room : (hs : List ℕ) (i : ℕ) {d₀ s₀ d : List ℕ} {at : ℕ} → Left d₀ 0 s₀ d at (each words (drop i hs)) → i < length hs
+      → at + 3 * length es ≤ length d
   words_room hs i f l = omega (arith, room_next hs i words f l, words_length (get_or hs i 0))
 
   -- at a tag
-  pub words_tag : {h : ℕ} → SoundTag p ws h → {white : ℕ → Bool} → white ≡ is_white → {n : Node} → n ≡ node_at ws h → held_words (lookup white p n) s es ≡ words h
-  words_tag {h} t w q = rw (w, q) (names_same s (λ k. held_numbers (lookup is_white p (node_at ws h) k)) (three_of is_white p ws h) (λ k. sym (three_tag p ws k h t)) 0 es)
+  pub words_tag : {h : ℕ} → SoundTag p ws h → {white : ℕ → Bool} → white ≡ is_white → {n : Node} → n ≡ node_at ws h
+      → held_words (lookup white p n) s es ≡ words h
+  words_tag {h} t w q =
+      rw (w, q) (names_same s (λ k. held_numbers (lookup is_white p (node_at ws h) k)) (three_of is_white p ws h) (λ k. sym (three_tag p ws k h t)) 0 es)
 
   -- where k is within each name and in no handle's opening, nothing is held
   zeros_each : (hs : List ℕ) → ((i : ℕ) → i < length hs → words (get_or hs i 0) ≡ replicate (3 * length es) 0)
@@ -49,7 +52,12 @@ module _ (p ws s es : List ℕ) where
   zeros_each [] q = let z : 3 * length es * 0 ≡ 0 = omega arith in rw z
   zeros_each (h ∷ hs) q =
       let z : 3 * length es * suc (length hs) ≡ 3 * length es + 3 * length es * length hs = mul-suc (3 * length es) (length hs) ∙ omega arith in
-      rw (z, ← replicate-append-replicate {A = ℕ} (3 * length es) (3 * length es * length hs) 0, q 0 (omega arith), zeros_each hs (λ i l. q (suc i) (omega arith)))
+      rw (
+        z,
+        ← replicate-append-replicate {A = ℕ} (3 * length es) (3 * length es * length hs) 0,
+        q 0 (omega arith),
+        zeros_each hs (λ i l. q (suc i) (omega arith)),
+      )
 
   pub words_none : (hs k : List ℕ) → Tags p ws hs → Alike s es k → Unnamed p ws k hs → replicate (3 * length es * length hs) 0 ≡ each words hs
   words_none hs k t alike none =

@@ -57,26 +57,39 @@ below_none n p at e (inl z) h = rw z (zero_below n)
     zero_below n = cases (λ e. e ≡ 0) (leb 0 n) (λ t. refl) (λ t. refl)
 below_none n p at e (inr l) h = rw (lt-leb e n (omega (arith, l.0)))
 
-pub comment_cut : (k k' : ℕ) (p : List ℕ) (n at : ℕ) → n ≤ length p → length p - at ≤ k → n - at ≤ k' → comment_end k' (take n p) at ≡ below n (comment_end k p at)
+pub comment_cut : (k k' : ℕ) (p : List ℕ) (n at : ℕ) → n ≤ length p → length p - at ≤ k → n - at ≤ k'
+    → comment_end k' (take n p) at ≡ below n (comment_end k p at)
 unfolding comment_end
 comment_cut zero k' p n at hn e e' =
     let q : length (take n p) ≡ n = length_cut n p hn in
     comment_none k' (take n p) at (omega arith) ∙ sym (below_none n p at 0 (inl refl) (omega arith))
 comment_cut (suc k) zero p n at hn e e' = sym (below_none n p at (comment_end (suc k) p at) (comment_end_lem (suc k) p at) (omega arith))
 comment_cut (suc k) (suc k') p n at hn e e' =
-    go (dec_le n (at + 2)) (comment_cut k k' p n (suc (suc (suc at))) hn (omega arith) (omega arith)) (comment_cut k k' p n (suc at) hn (omega arith) (omega arith))
+    go (dec_le n (at + 2)) (comment_cut k k' p n (suc (suc (suc at))) hn (omega arith) (omega arith))
+    (comment_cut k k' p n (suc at) hn (omega arith) (omega arith))
   where
     q : length (take n p) ≡ n
     q = length_cut n p hn
 
-    go : Dec (n ≤ at + 2) → comment_end k' (take n p) (suc (suc (suc at))) ≡ below n (comment_end k p (suc (suc (suc at)))) → comment_end k' (take n p) (suc at) ≡ below n (comment_end k p (suc at)) → comment_end (suc k') (take n p) at ≡ below n (comment_end (suc k) p at)
+    go : Dec (n ≤ at + 2) → comment_end k' (take n p) (suc (suc (suc at))) ≡ below n (comment_end k p (suc (suc (suc at))))
+        → comment_end k' (take n p) (suc at) ≡ below n (comment_end k p (suc at)) → comment_end (suc k') (take n p) at ≡ below n (comment_end (suc k) p at)
     go (yes h) past on =
         comment_none (suc k') (take n p) at (omega (arith, q, h)) ∙ sym (below_none n p at (comment_end (suc k) p at) (comment_end_lem (suc k) p at) h)
     go (no h) past on =
-        rw (past, on, here_cut (is 45) p n at hn (omega (arith, h)), here_cut (is 45) p n (suc at) hn (omega (arith, h)), here_cut (is 62) p n (suc (suc at)) hn (omega (arith, h)), lt-ltb at (length p) (omega (arith, h)), lt-ltb at (length (take n p)) (omega (arith, h, q)))
+        rw (
+          past,
+          on,
+          here_cut (is 45) p n at hn (omega (arith, h)),
+          here_cut (is 45) p n (suc at) hn (omega (arith, h)),
+          here_cut (is 62) p n (suc (suc at)) hn (omega (arith, h)),
+          lt-ltb at (length p) (omega (arith, h)),
+          lt-ltb at (length (take n p)) (omega (arith, h, q)),
+        )
         (two (is 45 (get_or p at 0) && here (is 45) p (suc at)) (here (is 62) p (suc (suc at))))
       where
-        two : (b g : Bool) → pick b (pick g (suc (suc (suc at))) (below n (comment_end k p (suc (suc (suc at)))))) (below n (comment_end k p (suc at))) ≡ below n (pick b (pick g (suc (suc (suc at))) (comment_end k p (suc (suc (suc at))))) (comment_end k p (suc at)))
+        two : (b g : Bool)
+            → pick b (pick g (suc (suc (suc at))) (below n (comment_end k p (suc (suc (suc at)))))) (below n (comment_end k p (suc at)))
+            ≡ below n (pick b (pick g (suc (suc (suc at))) (comment_end k p (suc (suc (suc at))))) (comment_end k p (suc at)))
         two true true = rw (le-leb (suc (suc (suc at))) n (omega (arith, h)))
         two true false = refl
         two false g = refl

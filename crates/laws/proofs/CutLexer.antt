@@ -58,7 +58,8 @@ pub here_stop : (P : ℕ → Bool) (p : List ℕ) → here P p (length p) ≡ fa
 here_stop P p = rw (le-ltb (length p) (length p) (omega arith))
 
 -- a branch on the byte at a place; the first item passes that byte
-pub branch_items : (P : ℕ → Bool) {F G : List ℕ → ℕ → Item} → Items F → Items G → ((p : List ℕ) (at : ℕ) → at < length p → at < next (F p at)) → Items (λ p at. pick (here P p at) (F p at) (G p at))
+pub branch_items : (P : ℕ → Bool) {F G : List ℕ → ℕ → Item} → Items F → Items G → ((p : List ℕ) (at : ℕ) → at < length p → at < next (F p at))
+    → Items (λ p at. pick (here P p at) (F p at) (G p at))
 branch_items P {F} {G} S T strict =
     record {
       grows = λ p at h. cases (λ i. at ≤ next i) (here P p at) (λ t. S.grows p at h) (λ t. T.grows p at h);
@@ -67,7 +68,8 @@ branch_items P {F} {G} S T strict =
       cut = λ p n at hn ha. go p n at hn ha (dec_lt at n);
     }
   where
-    go : (p : List ℕ) (n at : ℕ) → n < length p → at ≤ n → Dec (at < n) → Cut n (pick (here P p at) (F p at) (G p at)) (pick (here P (take n p) at) (F (take n p) at) (G (take n p) at))
+    go : (p : List ℕ) (n at : ℕ) → n < length p → at ≤ n → Dec (at < n)
+        → Cut n (pick (here P p at) (F p at) (G p at)) (pick (here P (take n p) at) (F (take n p) at) (G (take n p) at))
     go p n at hn ha (yes h) = rw (here_cut P p n at (omega arith) h) (both (here P p at))
       where
         both : (b : Bool) → Cut n (pick b (F p at) (G p at)) (pick b (F (take n p) at) (G (take n p) at))
@@ -117,7 +119,8 @@ module _ (white : ℕ → Bool) where
   pub tag_end_scans : Scans tag_end
   tag_end_scans =
       record {
-        grows = λ p at h. omega (arith, (skip_scans is_ident).grows p at h, (end_grows white (length p) p (skip is_ident p at) ((skip_scans is_ident).within p at h)).0);
+        grows = λ p at h. omega
+            (arith, (skip_scans is_ident).grows p at h, (end_grows white (length p) p (skip is_ident p at) ((skip_scans is_ident).within p at h)).0);
         within = λ p at h. (end_grows white (length p) p (skip is_ident p at) ((skip_scans is_ident).within p at h)).1;
         cut = λ p n at hn ha. go p n at hn ha (dec_le (skip is_ident p at) n);
       }
@@ -136,21 +139,26 @@ module _ (white : ℕ → Bool) where
   unfolding tag
   tag_items =
       record {
-        grows = λ p at h. omega (arith, tag_end_scans.grows p at h, (tag_from_items at (skip is_ident p at)).grows p (tag_end p at) (tag_end_scans.within p at h));
+        grows = λ p at h. omega
+            (arith, tag_end_scans.grows p at h, (tag_from_items at (skip is_ident p at)).grows p (tag_end p at) (tag_end_scans.within p at h));
         within = λ p at h. (tag_from_items at (skip is_ident p at)).within p (tag_end p at) (tag_end_scans.within p at h);
-        stop = λ p. let e : tag_end p (length p) ≡ length p = omega (arith, tag_end_scans.grows p (length p) (omega arith), tag_end_scans.within p (length p) (omega arith)) in rw e ((tag_from_items (length p) (skip is_ident p (length p))).stop p);
+        stop = λ p. let e : tag_end p (length p) ≡ length p =
+            omega (arith, tag_end_scans.grows p (length p) (omega arith), tag_end_scans.within p (length p) (omega arith)) in
+            rw e ((tag_from_items (length p) (skip is_ident p (length p))).stop p);
         cut = λ p n at hn ha. go p n at hn ha (dec_le (skip is_ident p at) n);
       }
     where
       go : (p : List ℕ) (n at : ℕ) → n < length p → at ≤ n → Dec (skip is_ident p at ≤ n) → Cut n (tag white p at) (tag white (take n p) at)
       go p n at hn ha (yes h) =
           let e : skip is_ident (take n p) at ≡ skip is_ident p at = (skip_scans is_ident).cut p n at (omega arith) ha ∙ omega arith in
-          rw (tag_end_scans.cut p n at (omega arith) ha, e) (item_cut_at (tag_from_items at (skip is_ident p at)) p n (tag_end p at) hn (tag_end_scans.within p at (omega arith)))
+          rw (tag_end_scans.cut p n at (omega arith) ha, e)
+          (item_cut_at (tag_from_items at (skip is_ident p at)) p n (tag_end p at) hn (tag_end_scans.within p at (omega arith)))
       go p n at hn ha (no h) =
           let g : skip is_ident p at ≤ length p = (skip_scans is_ident).within p at (omega arith) in
           let a : n < tag_end p at = omega (arith, (end_grows white (length p) p (skip is_ident p at) g).0) in
           let e : tag_end (take n p) at ≡ n = tag_end_scans.cut p n at (omega arith) ha ∙ omega arith in
-          rw e (ended (tag_from_items at (skip is_ident (take n p) at)) p n (tag white p at) hn (omega (arith, (tag_from_items at (skip is_ident p at)).grows p (tag_end p at) (tag_end_scans.within p at (omega arith)))))
+          rw e (ended (tag_from_items at (skip is_ident (take n p) at)) p n (tag white p at) hn
+          (omega (arith, (tag_from_items at (skip is_ident p at)).grows p (tag_end p at) (tag_end_scans.within p at (omega arith)))))
 
   pub closing_items : Items (closing)
   unfolding closing
@@ -196,10 +204,13 @@ module _ (white : ℕ → Bool) where
   declared_past : (p : List ℕ) (n x : ℕ) (i : Item) → n < length p → n < next i → skip is_ident (take n p) x ≡ n → Cut n i (declaration (take n p) x)
   declared_past p n x i hn h e =
       let l : length (take n p) ≡ n = length_cut n p (omega arith) in
-      let w : skip white (take n p) n ≡ n = omega (arith, (skip_scans white).grows (take n p) n (omega arith), (skip_scans white).within (take n p) n (omega arith)) in
+      let w : skip white (take n p) n ≡ n =
+      omega (arith, (skip_scans white).grows (take n p) n (omega arith), (skip_scans white).within (take n p) n (omega arith)) in
       rw (e, w) (past h (omega (arith, declared (take n p) x n n (omega arith))) (declared_plain (take n p) x n n))
 
-  declaration_from_cut : (p : List ℕ) (n w : ℕ) → n < length p → w ≤ length p → (b : Bool) → Cut n (pick b (doctype_from white p w (skip is_ident p w)) (Nothing w)) (pick b (doctype_from white (take n p) (min n w) (skip is_ident (take n p) (min n w))) (Nothing (min n w)))
+  declaration_from_cut : (p : List ℕ) (n w : ℕ) → n < length p → w ≤ length p → (b : Bool)
+      → Cut n (pick b (doctype_from white p w (skip is_ident p w)) (Nothing w))
+      (pick b (doctype_from white (take n p) (min n w) (skip is_ident (take n p) (min n w))) (Nothing (min n w)))
   declaration_from_cut p n w hn hw true = go (dec_lt (skip white p (skip is_ident p w)) n)
     where
       f : skip is_ident (take n p) (min n w) ≡ min n (skip is_ident p w)
@@ -211,7 +222,8 @@ module _ (white : ℕ → Bool) where
       l : length (take n p) ≡ n
       l = length_cut n p (omega arith)
 
-      go : Dec (skip white p (skip is_ident p w) < n) → Cut n (doctype_from white p w (skip is_ident p w)) (doctype_from white (take n p) (min n w) (skip is_ident (take n p) (min n w)))
+      go : Dec (skip white p (skip is_ident p w) < n)
+          → Cut n (doctype_from white p w (skip is_ident p w)) (doctype_from white (take n p) (min n w) (skip is_ident (take n p) (min n w)))
       go (yes h) =
           let a : skip is_ident p w ≤ n = omega (arith, (skip_scans white).grows p (skip is_ident p w) ((skip_scans is_ident).within p w hw)) in
           let b : w ≤ n = omega (arith, (skip_scans is_ident).grows p w hw) in
@@ -240,11 +252,17 @@ module _ (white : ℕ → Bool) where
       go p n x hn hx (yes h) =
           let e : skip is_ident (take n p) x ≡ skip is_ident p x = (skip_scans is_ident).cut p n x (omega arith) hx ∙ omega arith in
           rw (name_white.cut p n x (omega arith) hx, e, part_cut p n x (skip is_ident p x) h)
-          (declaration_from_cut p n (skip white p (skip is_ident p x)) hn (name_white.within p x (omega arith)) (same_lower (part p x (skip is_ident p x)) doctype_name))
+          (declaration_from_cut p n (skip white p (skip is_ident p x)) hn (name_white.within p x (omega arith))
+          (same_lower (part p x (skip is_ident p x)) doctype_name))
       go p n x hn hx (no h) =
           let e : skip is_ident (take n p) x ≡ n = (skip_scans is_ident).cut p n x (omega arith) hx ∙ omega arith in
           let g : skip is_ident p x ≤ length p = (skip_scans is_ident).within p x (omega arith) in
-          declared_past p n x (declaration p x) hn (omega (arith, (skip_scans white).grows p (skip is_ident p x) g, declared p x (skip is_ident p x) (skip white p (skip is_ident p x)) (name_white.within p x (omega arith)))) e
+          declared_past p n x (declaration p x) hn
+          (omega (
+            arith,
+            (skip_scans white).grows p (skip is_ident p x) g,
+            declared p x (skip is_ident p x) (skip white p (skip is_ident p x)) (name_white.within p x (omega arith)),
+          )) e
 
 -- where an item's name ends
 abbrev pub name_to : Item → ℕ
@@ -296,7 +314,8 @@ abbrev pub comment : ℕ → List ℕ → ℕ → Item
 comment s p x = comment_to p s (comment_end (length p) p x)
 
 -- the end of a comment's item
-commented : (p : List ℕ) (s x e : ℕ) → Ends p x e → ((x + 3 ≤ next (comment_to p s e)) ⊎ (next (comment_to p s e) ≡ length p)) × (next (comment_to p s e) ≤ length p)
+commented : (p : List ℕ) (s x e : ℕ) → Ends p x e → ((x + 3 ≤ next (comment_to p s e)) ⊎ (next (comment_to p s e) ≡ length p))
+    × (next (comment_to p s e) ≤ length p)
 commented p s x e (inl z) = rw z (inr refl, omega arith)
 commented p s x e (inr l) = rw (ne_eqb e 0 (λ z. omega (arith, l.0))) (inl l.0, l.1)
 
@@ -309,10 +328,14 @@ comment_items s =
       grows = λ p x h. ⊎_elim (λ l. omega (arith, l)) (λ l. omega (arith, l)) (commented p s x (comment_end (length p) p x) (comment_end_lem (length p) p x)).0;
       within = λ p x h. (commented p s x (comment_end (length p) p x) (comment_end_lem (length p) p x)).1;
       stop = λ p. comment_plain p s (comment_end (length p) p (length p));
-      cut = λ p n x hn hx. let l : length (take n p) ≡ n = length_cut n p (omega arith) in rw (l, comment_cut (length p) n p n x (omega arith) (omega arith) (omega arith)) (go p n x (comment_end (length p) p x) hn l (comment_end_lem (length p) p x));
+      cut = λ p n x hn hx. let l : length (take n p) ≡ n =
+          length_cut n p (omega arith) in
+          rw (l, comment_cut (length p) n p n x (omega arith) (omega arith) (omega arith))
+          (go p n x (comment_end (length p) p x) hn l (comment_end_lem (length p) p x));
     }
   where
-    go : (p : List ℕ) (n x e : ℕ) → n < length p → length (take n p) ≡ n → Ends p x e → Cut n (comment_to p s e) (pick (eqb (below n e) 0) (Comment s s n) (Comment s (below n e) (below n e)))
+    go : (p : List ℕ) (n x e : ℕ) → n < length p → length (take n p) ≡ n → Ends p x e
+        → Cut n (comment_to p s e) (pick (eqb (below n e) 0) (Comment s s n) (Comment s (below n e) (below n e)))
     go p n x e hn l (inl z) = rw (z, le-leb 0 n (omega arith)) (past hn refl refl)
     go p n x e hn l (inr h) =
         rw (ne_eqb e 0 (λ z. omega (arith, h.0)))
@@ -350,17 +373,22 @@ module _ (white : ℕ → Bool) where
       far = ⊎_elim (λ l. omega (arith, l, h)) (λ l. omega (arith, l)) (commented p s x (comment_end (length p) p x) (comment_end_lem (length p) p x)).0
 
       dash : (here (is 45) p x && here (is 45) p (suc x)) ≡ true → Dec (x < n) → Cut n (comment s p x) (declaration white (take n p) x)
-      dash t (yes l) = declared_past white p n x (comment s p x) hn far (dash_runs p n x hn (omega (arith, h, l)) (and_left (here (is 45) p x) (here (is 45) p (suc x)) t))
+      dash t (yes l) =
+          declared_past white p n x (comment s p x) hn far (dash_runs p n x hn (omega (arith, h, l)) (and_left (here (is 45) p x) (here (is 45) p (suc x)) t))
       dash t (no l) =
           let q : length (take n p) ≡ n = length_cut n p (omega arith) in
-          declared_past white p n x (comment s p x) hn far (omega (arith, (skip_scans is_ident).grows (take n p) x (omega arith), (skip_scans is_ident).within (take n p) x (omega arith)))
+          declared_past white p n x (comment s p x) hn far
+          (omega (arith, (skip_scans is_ident).grows (take n p) x (omega arith), (skip_scans is_ident).within (take n p) x (omega arith)))
 
   pub bang_from_items : (s : ℕ) → Items (bang_from s)
   bang_from_items s =
       record {
-        grows = λ p x h. cases (λ i. x ≤ next i) (here (is 45) p x && here (is 45) p (suc x)) (λ t. (comment_items s).grows p x h) (λ t. (declaration_items white).grows p x h);
-        within = λ p x h. cases (λ i. next i ≤ length p) (here (is 45) p x && here (is 45) p (suc x)) (λ t. (comment_items s).within p x h) (λ t. (declaration_items white).within p x h);
-        stop = λ p. cases (λ i. is_tag i ≡ false) (here (is 45) p (length p) && here (is 45) p (suc (length p))) (λ t. (comment_items s).stop p) (λ t. (declaration_items white).stop p);
+        grows = λ p x h. cases (λ i. x ≤ next i) (here (is 45) p x && here (is 45) p (suc x)) (λ t. (comment_items s).grows p x h)
+            (λ t. (declaration_items white).grows p x h);
+        within = λ p x h. cases (λ i. next i ≤ length p) (here (is 45) p x && here (is 45) p (suc x)) (λ t. (comment_items s).within p x h)
+            (λ t. (declaration_items white).within p x h);
+        stop = λ p. cases (λ i. is_tag i ≡ false) (here (is 45) p (length p) && here (is 45) p (suc (length p))) (λ t. (comment_items s).stop p)
+            (λ t. (declaration_items white).stop p);
         cut = λ p n x hn hx. bang_cut s p n x hn hx (dec_lt (suc x) n);
       }
 
@@ -393,7 +421,8 @@ module _ (white : ℕ → Bool) where
         grows = λ p q h. rw (tag_end_lem p q h) ((tag_items white).grows p q h);
         within = λ p q h. rw (tag_end_lem p q h) ((tag_items white).within p q h);
         stop = λ p. rw (tag_end_lem p (length p) (omega arith)) ((tag_items white).stop p);
-        cut = λ p n q hn hq. rw (tag_end_lem p q (omega arith), tag_end_lem (take n p) q (omega (arith, length_cut n p (omega arith)))) ((tag_items white).cut p n q hn hq);
+        cut = λ p n q hn hq. rw (tag_end_lem p q (omega arith), tag_end_lem (take n p) q (omega (arith, length_cut n p (omega arith))))
+            ((tag_items white).cut p n q hn hq);
       }
 
   pub markup_items : Items (markup white)
@@ -417,7 +446,12 @@ module _ (white : ℕ → Bool) where
       go n e (no h) = past (omega arith) (omega arith) refl
 
   markup_strict : (p : List ℕ) (at : ℕ) → at < length p → at < next (markup white p (skip white p (pass p at)))
-  markup_strict p at h = omega (arith, (skip_scans white).grows p (pass p at) (omega arith), markup_items.grows p (skip white p (pass p at)) ((skip_scans white).within p (pass p at) (omega arith)))
+  markup_strict p at h =
+      omega (
+        arith,
+        (skip_scans white).grows p (pass p at) (omega arith),
+        markup_items.grows p (skip white p (pass p at)) ((skip_scans white).within p (pass p at) (omega arith)),
+      )
 
   pub item_items : Items (item_at white)
   unfolding item_at
@@ -435,7 +469,8 @@ module _ (white : ℕ → Bool) where
   tag_formed : (x : ℕ) (p : List ℕ) (at : ℕ) → x < at → at ≤ length p → Formed x (tag white p at)
   unfolding tag
   tag_formed x p at l h =
-      cases (Formed x) (here (is 47) p (tag_end white p at)) (λ t. go (pass p (tag_end white p at)) true (omega (arith, b))) (λ t. go (tag_end white p at) false (omega arith))
+      cases (Formed x) (here (is 47) p (tag_end white p at)) (λ t. go (pass p (tag_end white p at)) true (omega (arith, b)))
+      (λ t. go (tag_end white p at) false (omega arith))
     where
       g : skip is_ident p at ≤ length p
       g = (skip_scans is_ident).within p at h
@@ -477,7 +512,8 @@ module _ (white : ℕ → Bool) where
   unfolding item_at
   item_formed p at h =
       cases (Formed at) (here (is 60) p at)
-      (λ t. markup_formed at p (skip white p (pass p at)) (omega (arith, (skip_scans white).grows p (pass p at) (omega arith))) ((skip_scans white).within p (pass p at) (omega arith)))
+      (λ t. markup_formed at p (skip white p (pass p at)) (omega (arith, (skip_scans white).grows p (pass p at) (omega arith)))
+      ((skip_scans white).within p (pass p at) (omega arith)))
       (λ t. tt)
 
   pub item_cut : (p : List ℕ) (n at : ℕ) → n ≤ length p → at < n → Cut n (item_at white p at) (item_at white (take n p) at)
@@ -495,7 +531,8 @@ module _ (white : ℕ → Bool) where
       go (whole e x) = e
       go (past x e f) = absurd (omega arith)
 
-  pub item_past : (p : List ℕ) (n at : ℕ) → n ≤ length p → at < n → n < next (item_at white p at) → (next (item_at white (take n p) at) ≡ n) × (is_tag (item_at white (take n p) at) ≡ false)
+  pub item_past : (p : List ℕ) (n at : ℕ) → n ≤ length p → at < n → n < next (item_at white p at) → (next (item_at white (take n p) at) ≡ n)
+      × (is_tag (item_at white (take n p) at) ≡ false)
   item_past p n at hn h l = go (item_cut p n at hn h)
     where
       go : Cut n (item_at white p at) (item_at white (take n p) at) → (next (item_at white (take n p) at) ≡ n) × (is_tag (item_at white (take n p) at) ≡ false)

@@ -25,7 +25,8 @@ module _ (white : ℕ → Bool) (void : List ℕ → Bool) where
   close_at : (p : List ℕ) (r : Reading) (a e n : ℕ) (hs : List ℕ) → (close_into void p r a e n hs).at ≡ n
   unfolding close_into
   close_at p r a e n [] = refl
-  close_at p r a e n (h ∷ hs) = cases (λ (s : Reading). s.at ≡ n) (same (part p (node r.nodes h).name (node r.nodes h).stop) (part p a e)) (λ t. refl) (λ t. refl)
+  close_at p r a e n (h ∷ hs) =
+      cases (λ (s : Reading). s.at ≡ n) (same (part p (node r.nodes h).name (node r.nodes h).stop) (part p a e)) (λ t. refl) (λ t. refl)
 
   pub put_at_lem : (p : List ℕ) (r : Reading) (i : Item) → (put void p r i).at ≡ next i
   unfolding put
@@ -83,7 +84,8 @@ module _ (white : ℕ → Bool) (void : List ℕ → Bool) where
   put_good p r (Nothing n) g l m = λ k. omega (arith, g k)
 
   -- an item within the first n bytes does the same to both
-  close_cut : (p : List ℕ) (n : ℕ) (r : Reading) (a e x : ℕ) (hs : List ℕ) → Good r → r.at ≤ n → e ≤ n → close_into void (take n p) r a e x hs ≡ close_into void p r a e x hs
+  close_cut : (p : List ℕ) (n : ℕ) (r : Reading) (a e x : ℕ) (hs : List ℕ) → Good r → r.at ≤ n → e ≤ n
+      → close_into void (take n p) r a e x hs ≡ close_into void p r a e x hs
   unfolding close_into
   close_cut p n r a e x [] g l m = refl
   close_cut p n r a e x (h ∷ hs) g l m =
@@ -110,7 +112,8 @@ module _ (white : ℕ → Bool) (void : List ℕ → Bool) where
   later (suc k) p b r h =
       cases (λ (s : Reading). Ext b r.nodes s.nodes) (ltb r.at (length p))
       (λ t. let l : r.at < next (item_at white p r.at) = (item_grows white p r.at (ltb-true r.at (length p) t)).0 in
-      ext_trans (put_ext b p r (item_at white p r.at) (λ u. omega arith)) (later k p b (put void p r (item_at white p r.at)) (omega (arith, put_at_lem p r (item_at white p r.at)))))
+      ext_trans (put_ext b p r (item_at white p r.at) (λ u. omega arith))
+      (later k p b (put void p r (item_at white p r.at)) (omega (arith, put_at_lem p r (item_at white p r.at)))))
       (λ t. ext_refl b r.nodes)
 
   pub step_on : (k : ℕ) (p : List ℕ) (r : Reading) → r.at < length p → steps white void p (suc k) r ≡ steps white void p k (put void p r (item_at white p r.at))
@@ -126,7 +129,8 @@ module _ (white : ℕ → Bool) (void : List ℕ → Bool) (p : List ℕ) (n : �
   -- cut, or one item more takes it there, which is no tag, where the whole page's item goes beyond.
   pub data Ending (r s : Reading) : Type 0 where
     there : r.at ≡ n → s ≡ r → Ending r s
-    short : r.at < n → n < next (item_at white p r.at) → next (item_at white (take n p) r.at) ≡ n → is_tag (item_at white (take n p) r.at) ≡ false → s ≡ put void (take n p) r (item_at white (take n p) r.at) → Ending r s
+    short : r.at < n → n < next (item_at white p r.at) → next (item_at white (take n p) r.at) ≡ n → is_tag (item_at white (take n p) r.at) ≡ false
+        → s ≡ put void (take n p) r (item_at white (take n p) r.at) → Ending r s
 
   -- From r on the beginning's reading comes to s and the whole page's to t. They make the same steps up to a common reading.
   pub record Meets (r s t : Reading) : Type 0 where
@@ -149,15 +153,33 @@ pub record Outcome (n : ℕ) (ns ms : List Node) : Type 0 where
 module _ (white : ℕ → Bool) (void : List ℕ → Bool) (p : List ℕ) (n : ℕ) (hn : n ≤ length p) where
   at_cut : (k k' : ℕ) (r : Reading) → Good white void r → r.at ≡ n → Meets white void p n r (steps white void (take n p) k' r) (steps white void p k r)
   at_cut k k' r g e =
-      record { turns = 0; common = r; reached = no_step white void p r; reached_too = no_step white void (take n p) r; good = g; ending = there e (steps_done white void k' (take n p) r (omega (arith, length_cut n p hn))); rest = k; going = refl }
+      record {
+        turns = 0;
+        common = r;
+        reached = no_step white void p r;
+        reached_too = no_step white void (take n p) r;
+        good = g;
+        ending = there e (steps_done white void k' (take n p) r (omega (arith, length_cut n p hn)));
+        rest = k;
+        going = refl;
+      }
 
-  pub lockstep : (k k' : ℕ) (r : Reading) → Good white void r → r.at ≤ n → length p - r.at ≤ k → n - r.at ≤ k' → Meets white void p n r (steps white void (take n p) k' r) (steps white void p k r)
+  pub lockstep : (k k' : ℕ) (r : Reading) → Good white void r → r.at ≤ n → length p - r.at ≤ k → n - r.at ≤ k'
+      → Meets white void p n r (steps white void (take n p) k' r) (steps white void p k r)
   lockstep zero k' r g l e e' = at_cut zero k' r g (omega arith)
   lockstep (suc k) zero r g l e e' = at_cut (suc k) zero r g (omega arith)
   lockstep (suc k) (suc k') r g l e e' =
-      go (dec_lt r.at n) (λ c m. lockstep k k' (put void p r (item_at white p r.at)) (put_good white void p r (item_at white p r.at) g (omega arith) (item_formed white p r.at (omega arith))) (omega (arith, put_at_lem white void p r (item_at white p r.at))) (omega (arith, put_at_lem white void p r (item_at white p r.at))) (omega (arith, put_at_lem white void p r (item_at white p r.at))))
+      go (dec_lt r.at n)
+      (λ c m. lockstep k k' (put void p r (item_at white p r.at))
+      (put_good white void p r (item_at white p r.at) g (omega arith) (item_formed white p r.at (omega arith)))
+      (omega (arith, put_at_lem white void p r (item_at white p r.at))) (omega (arith, put_at_lem white void p r (item_at white p r.at)))
+      (omega (arith, put_at_lem white void p r (item_at white p r.at))))
     where
-      go : Dec (r.at < n) → (r.at < next (item_at white p r.at) → next (item_at white p r.at) ≤ n → Meets white void p n (put void p r (item_at white p r.at)) (steps white void (take n p) k' (put void p r (item_at white p r.at))) (steps white void p k (put void p r (item_at white p r.at)))) → Meets white void p n r (steps white void (take n p) (suc k') r) (steps white void p (suc k) r)
+      go : Dec (r.at < n)
+          → (r.at < next (item_at white p r.at) → next (item_at white p r.at) ≤ n
+          → Meets white void p n (put void p r (item_at white p r.at)) (steps white void (take n p) k' (put void p r (item_at white p r.at)))
+          (steps white void p k (put void p r (item_at white p r.at))))
+          → Meets white void p n r (steps white void (take n p) (suc k') r) (steps white void p (suc k) r)
       go (no d) ih = at_cut (suc k) (suc k') r g (omega arith)
       go (yes d) ih = both (item_cut white p n r.at hn d)
         where
@@ -167,10 +189,15 @@ module _ (white : ℕ → Bool) (void : List ℕ → Bool) (p : List ℕ) (n : �
           on_too : (a : ℕ) → steps white void (take n p) (suc a) r ≡ steps white void (take n p) a (put void (take n p) r (item_at white (take n p) r.at))
           on_too a = step_on white void a (take n p) r (omega (arith, length_cut n p hn))
 
-          both : Cut n (item_at white p r.at) (item_at white (take n p) r.at) → Meets white void p n r (steps white void (take n p) (suc k') r) (steps white void p (suc k) r)
+          both : Cut n (item_at white p r.at) (item_at white (take n p) r.at)
+              → Meets white void p n r (steps white void (take n p) (suc k') r) (steps white void p (suc k) r)
           both (whole q x) =
-              let c : put void (take n p) r (item_at white (take n p) r.at) ≡ put void p r (item_at white p r.at) = rw q (put_cut white void p n r (item_at white p r.at) g l (omega (arith, formed_named r.at (item_at white p r.at) (item_formed white p r.at (omega arith))))) in
-              let m : Meets white void p n (put void p r (item_at white p r.at)) (steps white void (take n p) k' (put void p r (item_at white p r.at))) (steps white void p k (put void p r (item_at white p r.at))) = ih (item_grows white p r.at (omega arith)).0 x in
+              let c : put void (take n p) r (item_at white (take n p) r.at) ≡ put void p r (item_at white p r.at) =
+              rw q (put_cut white void p n r (item_at white p r.at) g l
+              (omega (arith, formed_named r.at (item_at white p r.at) (item_formed white p r.at (omega arith))))) in
+              let m : Meets white void p n (put void p r (item_at white p r.at))
+              (steps white void (take n p) k' (put void p r (item_at white p r.at))) (steps white void p k (put void p r (item_at white p r.at))) =
+              ih (item_grows white p r.at (omega arith)).0 x in
               record {
                 turns = suc m.turns;
                 common = m.common;
@@ -189,7 +216,9 @@ module _ (white : ℕ → Bool) (void : List ℕ → Bool) (p : List ℕ) (n : �
                 reached = no_step white void p r;
                 reached_too = no_step white void (take n p) r;
                 good = g;
-                ending = short d x y z (on_too k' ∙ steps_done white void k' (take n p) (put void (take n p) r (item_at white (take n p) r.at)) (omega (arith, length_cut n p hn)));
+                ending = short d x y z
+                    (on_too k' ∙ steps_done white void k' (take n p) (put void (take n p) r (item_at white (take n p) r.at))
+                    (omega (arith, length_cut n p hn)));
                 rest = suc k;
                 going = refl;
               }
@@ -200,7 +229,8 @@ module _ (white : ℕ → Bool) (void : List ℕ → Bool) (p : List ℕ) (n : �
   past_cut zero r h = ext_refl n r.nodes
   past_cut (suc k) r h =
       cases (λ (s : Reading). Ext n r.nodes s.nodes) (ltb r.at (length p))
-      (λ t. ext_trans (put_ext white void n p r (item_at white p r.at) (λ u. h)) (later white void k p n (put void p r (item_at white p r.at)) (omega (arith, put_at_lem white void p r (item_at white p r.at)))))
+      (λ t. ext_trans (put_ext white void n p r (item_at white p r.at) (λ u. h))
+      (later white void k p n (put void p r (item_at white p r.at)) (omega (arith, put_at_lem white void p r (item_at white p r.at)))))
       (λ t. ext_refl n r.nodes)
 
   meets_outcome : {r s t : Reading} → Meets white void p n r s t → Outcome n s.nodes t.nodes
@@ -209,13 +239,19 @@ module _ (white : ℕ → Bool) (void : List ℕ → Bool) (p : List ℕ) (n : �
       go : Ending white void p n m.common s → Outcome n s.nodes (steps white void p m.rest m.common).nodes
       go (there e q) =
           rw q
-          (record { common = m.common.nodes; bounded = λ h. omega (arith, e, m.good h); beginning = λ b. ext_refl b m.common.nodes; beyond = later white void m.rest p n m.common (omega (arith, e)) })
+          (record {
+            common = m.common.nodes;
+            bounded = λ h. omega (arith, e, m.good h);
+            beginning = λ b. ext_refl b m.common.nodes;
+            beyond = later white void m.rest p n m.common (omega (arith, e));
+          })
       go (short d x y z q) =
           rw q
           (record {
             common = m.common.nodes;
             bounded = λ h. omega (arith, d, m.good h);
-            beginning = λ b. put_ext white void b (take n p) m.common (item_at white (take n p) m.common.at) (λ u. let o : ◌≡◌ {A = ℕ} 0 1 = cc in absurd (omega arith));
+            beginning = λ b. put_ext white void b (take n p) m.common (item_at white (take n p) m.common.at)
+                (λ u. let o : ◌≡◌ {A = ℕ} 0 1 = cc in absurd (omega arith));
             beyond = past_cut m.rest m.common x;
           })
 
@@ -251,8 +287,11 @@ module _ (white : ℕ → Bool) (void : List ℕ → Bool) (p : List ℕ) (n : �
         kept = λ h e. alike h (in_common h e);
         before = λ h e. omega (arith, (o.beyond.old h (in_common h e)).opened, o.bounded h);
         found = λ h e l. go h e l (dec_lt h (length o.common));
-        name = λ h e. rw ((alike h (in_common h e)).name, (alike h (in_common h e)).stop) (part_cut p n (node (read white void p).nodes h).name (node (read white void p).nodes h).stop (omega (arith, (o.beyond.old h (in_common h e)).stop, o.bounded h)));
-        opening = λ h e. rw (alike h (in_common h e)).opened (take-take (node (read white void p).nodes h).opened n p (omega (arith, (o.beyond.old h (in_common h e)).opened, o.bounded h)));
+        name = λ h e. rw ((alike h (in_common h e)).name, (alike h (in_common h e)).stop)
+            (part_cut p n (node (read white void p).nodes h).name (node (read white void p).nodes h).stop
+            (omega (arith, (o.beyond.old h (in_common h e)).stop, o.bounded h)));
+        opening = λ h e. rw (alike h (in_common h e)).opened
+            (take-take (node (read white void p).nodes h).opened n p (omega (arith, (o.beyond.old h (in_common h e)).opened, o.bounded h)));
         parents = λ h d e l. (alike d (omega (arith, in_common h e))).parent;
       }
     where
@@ -269,6 +308,7 @@ module _ (white : ℕ → Bool) (void : List ℕ → Bool) (p : List ℕ) (n : �
       alike : (h : ℕ) → h < length o.common → SameTag (node (read white void (take n p)).nodes h) (node (read white void p).nodes h)
       alike h l = same_trans (same_sym ((o.beginning n).old h l)) (o.beyond.old h l)
 
-      go : (h : ℕ) → (node (read white void p).nodes h).kind ≡ 1 → (node (read white void p).nodes h).opened ≤ n → Dec (h < length o.common) → (node (read white void (take n p)).nodes h).kind ≡ 1
+      go : (h : ℕ) → (node (read white void p).nodes h).kind ≡ 1 → (node (read white void p).nodes h).opened ≤ n → Dec (h < length o.common)
+          → (node (read white void (take n p)).nodes h).kind ≡ 1
       go h e l (yes d) = (alike h d).kind ∙ e
       go h e l (no d) = absurd (omega (arith, l, o.beyond.new h (omega (arith, d)) e))

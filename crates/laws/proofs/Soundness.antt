@@ -117,7 +117,8 @@ closing {t = t} e n l k x y s =
     }
 
 module _ (white : ℕ → Bool) (void : List ℕ → Bool) (p : List ℕ) where
-  add : (r : Reading) (x : Node) (n : ℕ) → Fine r → r.at ≤ n → SoundNode n (length r.nodes) x → (h : ℕ) → h < length (r.nodes ++ (x ∷ [])) → SoundNode n h (node (r.nodes ++ (x ∷ [])) h)
+  add : (r : Reading) (x : Node) (n : ℕ) → Fine r → r.at ≤ n → SoundNode n (length r.nodes) x → (h : ℕ) → h < length (r.nodes ++ (x ∷ []))
+      → SoundNode n h (node (r.nodes ++ (x ∷ [])) h)
   add r x n F l s h b =
       snoc_all (λ h t. h < suc (length r.nodes) → SoundNode n h t) r.nodes x (λ h k z. later l (F.nodes h k)) (λ z. s) (λ h k z. absurd (omega arith)) h
       (omega (arith, length-append r.nodes (x ∷ [])))
@@ -226,7 +227,8 @@ module _ (white : ℕ → Bool) (void : List ℕ → Bool) (p : List ℕ) where
       cases (λ (s : Reading). Fine s × (s.at ≤ length p)) (ltb r.at (length p))
       (λ t. let l : r.at < length p = ltb-true r.at (length p) t in
       let g : (r.at < next (item_at white p r.at)) × (next (item_at white p r.at) ≤ length p) = item_grows white p r.at l in
-      steps_fine k (put void p r (item_at white p r.at)) (omega (arith, put_at_lem white void p r (item_at white p r.at))) (put_fine r (item_at white p r.at) g.0 (item_formed white p r.at l) F))
+      steps_fine k (put void p r (item_at white p r.at)) (omega (arith, put_at_lem white void p r (item_at white p r.at)))
+      (put_fine r (item_at white p r.at) g.0 (item_formed white p r.at l) F))
       (λ t. (F, h))
 
 -- the open tags get their last descendant

@@ -59,7 +59,8 @@ module _ (white : ℕ → Bool) (void : List ℕ → Bool) (p : List ℕ) where
   unfolding steps step
   steps_known zero r v = v
   steps_known (suc k) r v =
-      cases (λ (s : Reading). Known s.version) (ltb r.at (length p)) (λ t. steps_known k (put void p r (item_at white p r.at)) (put_known r (item_at white p r.at) v)) (λ t. v)
+      cases (λ (s : Reading). Known s.version) (ltb r.at (length p))
+      (λ t. steps_known k (put void p r (item_at white p r.at)) (put_known r (item_at white p r.at) v)) (λ t. v)
 
 -- a table with sound nodes
 module _ (len v : ℕ) {ws t : List ℕ} {ns : List Node} (S : Sound len ns) (F : Filled ws t (head_of (length ns) v len) ns) where

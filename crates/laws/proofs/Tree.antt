@@ -69,7 +69,8 @@ mem_parent ns b (h ∷ hs) d g c e q = go (eqb d h) refl e (mem_parent ns h hs d
     or_true true = refl
     or_true false = refl
 
-    go : (t : Bool) → eqb d h ≡ t → pick t true (mem d hs) ≡ true → (mem d hs ≡ true → parents ns d ≡ suc g → mem g hs ≡ true) → pick (eqb g h) true (mem g hs) ≡ true
+    go : (t : Bool) → eqb d h ≡ t → pick t true (mem d hs) ≡ true → (mem d hs ≡ true → parents ns d ≡ suc g → mem g hs ≡ true)
+        → pick (eqb g h) true (mem g hs) ≡ true
     go true y x ih =
         let k : d ≡ h = eqb-true d h y in
         let m : mem g hs ≡ true = head hs (sym c.1 ∙ (rw k at q)) in
@@ -134,7 +135,8 @@ module _ (ns : List Node) (hs : List ℕ) (S : Shape ns hs) (x : Node) (xp : x.p
   unfolding mem
   shape_add true = add hs (chain_cong ns (ns ++ (x ∷ [])) (length ns) (suc (length ns)) hs (omega arith) same_parents S.chain) (λ d l. refl)
   shape_add false =
-      add (length ns ∷ hs) (omega arith, ap (λ (t : Node). t.parent) new ∙ xp, chain_cong ns (ns ++ (x ∷ [])) (length ns) (length ns) hs (omega arith) same_parents S.chain)
+      add (length ns ∷ hs)
+      (omega arith, ap (λ (t : Node). t.parent) new ∙ xp, chain_cong ns (ns ++ (x ∷ [])) (length ns) (length ns) hs (omega arith) same_parents S.chain)
       (λ d l. rw (ne_eqb d (length ns) (λ e. omega (arith, e, l))))
 
 -- the innermost open tag closed
@@ -176,7 +178,9 @@ last_is l (h ∷ hs) ns g b =
     go (yes q) = rw (q, eq-eqb h h refl, get_or-set_same ns h y no_node (rw q at b)) (cases (λ (v : ℕ). v ≡ l) (mem h hs) (λ t. refl) (λ t. refl))
     go (no q) = rw (ne_eqb g h q, get_or-set_other ns h g y no_node q)
 
-pub shape_finish : (ns : List Node) (hs : List ℕ) → Shape ns hs → Nested (length (with_last (pred (length ns)) hs ns)) (parents (with_last (pred (length ns)) hs ns)) (λ d. (node (with_last (pred (length ns)) hs ns) d).last)
+pub shape_finish : (ns : List Node) (hs : List ℕ) → Shape ns hs
+    → Nested (length (with_last (pred (length ns)) hs ns)) (parents (with_last (pred (length ns)) hs ns))
+    (λ d. (node (with_last (pred (length ns)) hs ns) d).last)
 shape_finish ns hs S =
     rw (last_length (pred (length ns)) hs ns)
     (nested_cong S.nested (λ d l. sym ((ext_last 0 (pred (length ns)) hs ns).old d l).parent) (λ d l. last_is (pred (length ns)) hs ns d l))
@@ -212,7 +216,17 @@ module _ (white : ℕ → Bool) (void : List ℕ → Bool) (p : List ℕ) where
   pub page_nested : Nested (length (read white void p).nodes) (parents (read white void p).nodes) (λ d. (node (read white void p).nodes d).last)
   page_nested =
       shape_finish (steps white void p (length p) begin).nodes (steps white void p (length p) begin).opens
-      (steps_shape (length p) begin (record { chain = tt; nested = record { lower = λ d l. absurd (omega arith); own = λ d l. absurd (omega arith); inside = λ d l. absurd (omega arith); passed = λ d g l. absurd (omega arith); reached = λ d g l. absurd (omega arith) } }))
+      (steps_shape (length p) begin
+      (record {
+        chain = tt;
+        nested = record {
+          lower = λ d l. absurd (omega arith);
+          own = λ d l. absurd (omega arith);
+          inside = λ d l. absurd (omega arith);
+          passed = λ d g l. absurd (omega arith);
+          reached = λ d g l. absurd (omega arith);
+        };
+      }))
 
   has_parent : (d m : ℕ) → parents (read white void p).nodes d ≡ suc m → d < length (read white void p).nodes
   has_parent d m e = go (dec_lt d (length (read white void p).nodes))

@@ -186,7 +186,8 @@ fn ask_attributes(
         let t = table.now in
         let hs = handles.now in
         let b = words.old in
-        Prints out.old (bytes "attributes") (attributes_answer is_white p t hs (length b)) (attributes_buffer is_white p t hs name.now b) out.new result words.new }
+        Prints out.old (bytes "attributes") (attributes_answer is_white p t hs (length b))
+        (attributes_buffer is_white p t hs name.now b) out.new result words.new }
 {
     let mut count = 0;
     let number = tl::tl_attributes(page, table, handles, name, words, &mut count);

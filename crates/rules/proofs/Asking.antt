@@ -41,7 +41,8 @@ module _ (p ws : List ℕ) where
   refused_then : {A : Type 0} (R : Refusal → A) (c : Checked) (b : A) (y : Refusal) → asking Refused p ws c ≡ Refused y → (c ≡ Refused y → b ≡ R y)
       → asking R p ws b ≡ R y
   refused_then R c b y e f =
-      after_refused R (page_too_long p) PageTooLong y (pick (table_not_sound p ws) (Refused TableNotSound) c) (pick (table_not_sound p ws) (R TableNotSound) b) e
+      after_refused R (page_too_long p) PageTooLong y (pick (table_not_sound p ws) (Refused TableNotSound) c)
+      (pick (table_not_sound p ws) (R TableNotSound) b) e
       (λ g. after_refused R (table_not_sound p ws) TableNotSound y c b g f)
 
   pub was_fine : asking Refused p ws Fine ≡ Fine → Sound p ws

@@ -76,7 +76,8 @@ examples =
     ((0 ∷ 3 ∷ []) ∷ ((1 ∷ 0 ∷ 1 ∷ 0 ∷ 0 ∷ 2 ∷ []) ++ (1 ∷ 2 ∷ 3 ∷ 0 ∷ 0 ∷ 3 ∷ []) ++ (1 ∷ 4 ∷ 5 ∷ 0 ∷ 0 ∷ 0 ∷ [])) ∷ [])
     ∷ example (bytes "#.a*[k]> [k~='v']") (selector 30)
     ((0 ∷ 5 ∷ [])
-    ∷ ((2 ∷ 1 ∷ 1 ∷ 0 ∷ 0 ∷ 1 ∷ []) ++ (3 ∷ 2 ∷ 3 ∷ 0 ∷ 0 ∷ 1 ∷ []) ++ (4 ∷ 0 ∷ 0 ∷ 0 ∷ 0 ∷ 1 ∷ []) ++ (5 ∷ 5 ∷ 6 ∷ 0 ∷ 0 ∷ 4 ∷ []) ++ (7 ∷ 10 ∷ 11 ∷ 14 ∷ 15 ∷ 0 ∷ []))
+    ∷ ((2 ∷ 1 ∷ 1 ∷ 0 ∷ 0 ∷ 1 ∷ []) ++ (3 ∷ 2 ∷ 3 ∷ 0 ∷ 0 ∷ 1 ∷ []) ++ (4 ∷ 0 ∷ 0 ∷ 0 ∷ 0 ∷ 1 ∷ []) ++ (5 ∷ 5 ∷ 6 ∷ 0 ∷ 0 ∷ 4 ∷ [])
+    ++ (7 ∷ 10 ∷ 11 ∷ 14 ∷ 15 ∷ 0 ∷ []))
     ∷ [])
     ∷ example (bytes "[k='v\"]") (selector 1) ((6 ∷ 0 ∷ []) ∷ (0 ∷ []) ∷ [])
     ∷ example (bytes "a b") (selector 11) ((7 ∷ 0 ∷ []) ∷ replicate 11 0 ∷ [])
@@ -100,5 +101,8 @@ examples =
     ∷ []
 
 computed : answers examples ≡ said examples
-unfolding span agree from only each one_of attribute_at attribute_next attributes_end comment_end bang tag closing markup item_at close_into put step steps with_last node_at filled all reaching attributes first_of last_of lookup_from answer gap words_from times contains operand_at attribute_from simple_at selector_at chain_at written meaning parse_answer parse_table range_answer text_answer text_buffer attribute_answer attribute_part id_answer class_answer class_buffer selector_answer selector_buffer query_answer query_buffer query_below_answer query_below_buffer
+unfolding span agree from only each one_of attribute_at attribute_next attributes_end comment_end bang tag closing markup item_at close_into put step
+    steps with_last node_at filled all reaching attributes first_of last_of lookup_from answer gap words_from times contains operand_at
+    attribute_from simple_at selector_at chain_at written meaning parse_answer parse_table range_answer text_answer text_buffer attribute_answer
+    attribute_part id_answer class_answer class_buffer selector_answer selector_buffer query_answer query_buffer query_below_answer query_below_buffer
 computed = refl

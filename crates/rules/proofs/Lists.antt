@@ -46,7 +46,8 @@ unfolding only
 only_append f [] ys = refl
 only_append f (x ∷ xs) ys = go (f x) (only_append f xs ys)
   where
-    go : (b : Bool) → only f (xs ++ ys) ≡ only f xs ++ only f ys → pick b (x ∷ only f (xs ++ ys)) (only f (xs ++ ys)) ≡ pick b (x ∷ only f xs) (only f xs) ++ only f ys
+    go : (b : Bool) → only f (xs ++ ys) ≡ only f xs ++ only f ys
+        → pick b (x ∷ only f (xs ++ ys)) (only f (xs ++ ys)) ≡ pick b (x ∷ only f xs) (only f xs) ++ only f ys
     go true e = rw e
     go false e = e
 

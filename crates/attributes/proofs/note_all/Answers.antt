@@ -7,7 +7,10 @@ pub returns-then-c-eq0 : goal.returns-then-c-eq0
 returns-then-c-eq0 c = notes_none c.args.page.now c.args.a _ _ _ c.requires.out_len.0 (no_name _ _ c.requires.slotted _ c.slot_of-at.ensures.0 c.if-c-eq0.true)
 
 pub note_one-requires : goal.note_one-requires
-note_one-requires c = (c.requires.out_len.0, c.requires.out_len.1, name_inside _ _ c.requires.slotted _ c.slot_of-at.ensures.0 c.if-c-eq0.false c.if-c-lt-MANY.true)
+note_one-requires c =
+    (c.requires.out_len.0, c.requires.out_len.1, name_inside _ _ c.requires.slotted _ c.slot_of-at.ensures.0 c.if-c-eq0.false c.if-c-lt-MANY.true)
 
 pub returns-then-c-lt-MANY : goal.returns-then-c-lt-MANY
-returns-then-c-lt-MANY c = notes_only c.args.page.now c.args.a _ _ _ c.requires.out_len.0 c.note_one.ensures (one_name _ _ c.requires.slotted _ c.slot_of-at.ensures.0 c.if-c-eq0.false c.if-c-lt-MANY.true)
+returns-then-c-lt-MANY c =
+    notes_only c.args.page.now c.args.a _ _ _ c.requires.out_len.0 c.note_one.ensures
+    (one_name _ _ c.requires.slotted _ c.slot_of-at.ensures.0 c.if-c-eq0.false c.if-c-lt-MANY.true)

@@ -21,7 +21,10 @@ returns-in_default c = let l = c.loop-a in
 
 pub note_all-requires : goal.note_all-requires
 note_all-requires c = let l = c.loop-a in
-    record { slotted = c.requires.slotted.0; out_len = (l.invariant.size, turn_placed _ _ c.requires.marked.2 (turn _ _ l.invariant.inside c.next_attribute.ensures _ c.in-Found.is)) }
+    record {
+      slotted = c.requires.slotted.0;
+      out_len = (l.invariant.size, turn_placed _ _ c.requires.marked.2 (turn _ _ l.invariant.inside c.next_attribute.ensures _ c.in-Found.is));
+    }
 
 pub loop-a-smaller : goal.loop-a-smaller
 loop-a-smaller c = let t = turn _ _ c.loop-a.invariant.inside c.next_attribute.ensures _ c.in-Found.is in

@@ -8,7 +8,8 @@ use Rattle.batch.proofs.read_names.Given as goal
 
 abbrev pub invariant-loop-i : goal.invariant-loop-i
 invariant-loop-i l =
-    (length l.out ≡ length l.initial.out) × Done (words l.page l.table l.names l.ends) (3 * length l.ends) (words_length l.page l.table l.names l.ends) l.handles l.i l.at l.out
+    (length l.out ≡ length l.initial.out)
+    × Done (words l.page l.table l.names l.ends) (3 * length l.ends) (words_length l.page l.table l.names l.ends) l.handles l.i l.at l.out
 
 abbrev pub decreases-loop-i : goal.decreases-loop-i
 decreases-loop-i l = length l.handles - l.i

@@ -18,7 +18,8 @@ id_closed-requires c = let a = c.args in
 pub returns-in-Refused : goal.returns-in-Refused
 unfolding id_answer
 returns-in-Refused c = let a = c.args in
-    sym (was_refused a.page.now a.table.now Refused (first_found (by_id is_white a.page.now a.table.now a.manner a.id.now)) _ (sym c.check.ensures ∙ c.in-Refused.is))
+    sym (was_refused a.page.now a.table.now Refused (first_found (by_id is_white a.page.now a.table.now a.manner a.id.now)) _
+    (sym c.check.ensures ∙ c.in-Refused.is))
 
 pub returns-in-Scan : goal.returns-in-Scan
 unfolding id_answer

@@ -21,7 +21,10 @@ query-requires c = let few = (parsed _ _ _ _ c.parse_selector.ensures _ c.in-Pie
 
 pub query_below-requires : goal.query_below-requires
 query_below-requires c = let few = (parsed _ _ _ _ c.parse_selector.ensures _ c.in-Pieces.is).few in
-    record { marked = (c.mark_table-t.ensures.marked, c.requires.0); pieces_in_bounds = (omega (arith, few, c.if-s-gt-LIMIT.false), rw c.in-Below.is at c.requires.1) }
+    record {
+      marked = (c.mark_table-t.ensures.marked, c.requires.0);
+      pieces_in_bounds = (omega (arith, few, c.if-s-gt-LIMIT.false), rw c.in-Below.is at c.requires.1);
+    }
 
 pub returns-in-Page : goal.returns-in-Page
 returns-in-Page c = let a = c.args in

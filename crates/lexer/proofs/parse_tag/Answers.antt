@@ -20,13 +20,15 @@ pub overflow_add-q : goal.overflow_add-q
 overflow_add-q c = omega (arith, (byte (goal.at.overflow_add-q c).In-Byte).below)
 
 pub returns-then-b-eq47 : goal.returns-then-b-eq47
-returns-then-b-eq47 c = markup_close _ c.args.s.now c.requires.1 c.skip_whitespaces-q.ensures (byte (goal.at.returns-then-b-eq47 c).In-Byte) c.if-b-eq47.true c.read_end.ensures
+returns-then-b-eq47 c =
+    markup_close _ c.args.s.now c.requires.1 c.skip_whitespaces-q.ensures (byte (goal.at.returns-then-b-eq47 c).In-Byte) c.if-b-eq47.true c.read_end.ensures
 
 pub read_markdown-requires : goal.read_markdown-requires
 read_markdown-requires c = (search rules, rw c.skip_whitespaces-q.ensures (omega arith), (byte (goal.at.read_markdown-requires c).In-Byte).below)
 
 pub returns-then-b-eq33 : goal.returns-then-b-eq33
-returns-then-b-eq33 c = markup_bang _ c.args.s.now c.requires.1 c.skip_whitespaces-q.ensures (byte (goal.at.returns-then-b-eq33 c).In-Byte) c.if-b-eq47.false c.if-b-eq33.true
+returns-then-b-eq33 c =
+    markup_bang _ c.args.s.now c.requires.1 c.skip_whitespaces-q.ensures (byte (goal.at.returns-then-b-eq33 c).In-Byte) c.if-b-eq47.false c.if-b-eq33.true
     c.read_markdown.ensures
 
 pub read_tag-requires : goal.read_tag-requires

@@ -16,7 +16,8 @@ stood c =
 
 pub returns-in_default-current_cpy : goal.returns-in_default-current_cpy
 returns-in_default-current_cpy c = let p = c.args.s.now in
-    value_end_lem _ p (stood (goal.at.returns-in_default-current_cpy c).In-Next) c.skip_whitespaces-v.ensures (was_end p _ _ c.current_cpy.ensures c.in_default-current_cpy.is)
+    value_end_lem _ p (stood (goal.at.returns-in_default-current_cpy c).In-Next) c.skip_whitespaces-v.ensures
+    (was_end p _ _ c.current_cpy.ensures c.in_default-current_cpy.is)
 
 -- the byte after white
 byte : (c : In-Byte)
@@ -28,7 +29,8 @@ pub overflow_add-start : goal.overflow_add-start
 overflow_add-start c = omega (arith, (byte (goal.at.overflow_add-start c).In-Byte).below)
 
 pub returns-then-q : goal.returns-then-q
-returns-then-q c = value_quoted _ c.args.s.now (stood (goal.at.returns-then-q c).In-Next) c.skip_whitespaces-v.ensures _ (byte (goal.at.returns-then-q c).In-Byte) c.if-q.true
+returns-then-q c =
+    value_quoted _ c.args.s.now (stood (goal.at.returns-then-q c).In-Next) c.skip_whitespaces-v.ensures _ (byte (goal.at.returns-then-q c).In-Byte) c.if-q.true
     c.find-end.ensures
 
 pub returns : goal.returns

@@ -17,7 +17,8 @@ pub slice_bounds-is_doctype-end : goal.slice_bounds-is_doctype-end
 slice_bounds-is_doctype-end c = name_in (goal.at.slice_bounds-is_doctype-end c).After-search_non_ident-e
 
 pub slice_bounds-is_html-end : goal.slice_bounds-is_html-end
-slice_bounds-is_html-end c = rw c.search_non_ident-f.ensures (skip_le is_ident c.args.s.now _ (white_in_lem (goal.at.slice_bounds-is_html-end c).After-skip_whitespaces-w))
+slice_bounds-is_html-end c =
+    rw c.search_non_ident-f.ensures (skip_le is_ident c.args.s.now _ (white_in_lem (goal.at.slice_bounds-is_html-end c).After-skip_whitespaces-w))
 
 pub returns-then-is_doctype : goal.returns-then-is_doctype
 returns-then-is_doctype c = rw (

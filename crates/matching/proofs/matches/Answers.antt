@@ -20,13 +20,19 @@ pub returns-in-Answer : goal.returns-in-Answer
 returns-in-Answer c = let a = c.args in
     let l = c.loop-i in
     let told = sym c.settle.ensures ∙ c.in-Answer.is in
-    sym (l.invariant.1 ∙ chain_answer (node_fits (white_in a.t.now) a.page.now a.s.now a.n) a.pieces a.words.now l.i c.loop-i-test.true _ (rw (c.fits-fit.ensures, c.piece_at-p.ensures) at told))
+    sym (l.invariant.1
+    ∙ chain_answer (node_fits (white_in a.t.now) a.page.now a.s.now a.n) a.pieces a.words.now l.i c.loop-i-test.true _
+    (rw (c.fits-fit.ensures, c.piece_at-p.ensures) at told))
 
 pub loop-i-preserved : goal.loop-i-preserved
 loop-i-preserved c = let a = c.args in
     let l = c.loop-i in
-    let told = sym c.settle.ensures ∙ c.in-Rest.is in
-    (search rules, l.invariant.1 ∙ chain_rest (node_fits (white_in a.t.now) a.page.now a.s.now a.n) a.pieces a.words.now l.i c.loop-i-test.true (rw (c.fits-fit.ensures, c.piece_at-p.ensures) at told))
+    let told = sym c.settle.ensures ∙ c.in-Rest.is in (
+      search rules,
+      l.invariant.1
+          ∙ chain_rest (node_fits (white_in a.t.now) a.page.now a.s.now a.n) a.pieces a.words.now l.i c.loop-i-test.true
+          (rw (c.fits-fit.ensures, c.piece_at-p.ensures) at told),
+    )
 
 pub returns : goal.returns
 returns c = let l = c.loop-i in sym (l.invariant.1 ∙ mean_none _ _ _ l.i (omega arith))

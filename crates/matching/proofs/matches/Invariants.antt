@@ -9,7 +9,8 @@ use Rattle.matching.proofs.matches.Given as goal
 abbrev pub invariant-loop-i : goal.invariant-loop-i
 invariant-loop-i l =
     (l.i ≤ l.pieces)
-    × (meaning (node_fits (white_in l.t) l.page l.s l.n) (pieces_from l.pieces l.words 0) ≡ meaning (node_fits (white_in l.t) l.page l.s l.n) (pieces_from (l.pieces - l.i) l.words l.i))
+    × (meaning (node_fits (white_in l.t) l.page l.s l.n) (pieces_from l.pieces l.words 0)
+    ≡ meaning (node_fits (white_in l.t) l.page l.s l.n) (pieces_from (l.pieces - l.i) l.words l.i))
 
 abbrev pub decreases-loop-i : goal.decreases-loop-i
 decreases-loop-i l = l.pieces - l.i

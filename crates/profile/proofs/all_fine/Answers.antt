@@ -13,8 +13,10 @@ loop-i-init c = (omega arith, c.numbers_fine-ok.ensures ∙ sym (and-true (numbe
 
 pub loop-i-preserved : goal.loop-i-preserved
 unfolding all
-loop-i-preserved c = let q = c.args.profile.now in
-    (omega arith, rw (add-one, c.name_fine-ok.ensures, c.loop-i.invariant.1) (and_assoc (numbers_fine q) (all (name_fine q) c.loop-i.i) (name_fine q c.loop-i.i)))
+loop-i-preserved c = let q = c.args.profile.now in (
+  omega arith,
+  rw (add-one, c.name_fine-ok.ensures, c.loop-i.invariant.1) (and_assoc (numbers_fine q) (all (name_fine q) c.loop-i.i) (name_fine q c.loop-i.i)),
+)
 
 pub returns : goal.returns
 unfolding profile_fine

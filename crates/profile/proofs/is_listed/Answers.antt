@@ -63,13 +63,24 @@ next_is c =
     c.wide-i-in-loop-i.ensures.0 ∙ ap (λ (k : ℕ). get_or a.heads.now k 0) z
 
 pub loop-i-smaller : goal.loop-i-smaller
-loop-i-smaller c = omega (arith, next_is (goal.at.loop-i-smaller c).After-wide-i-in-loop-i, c.loop-i-test.true, c.requires.2.filled.links (c.loop-i.i - 1) (omega (arith, c.loop-i.invariant.0, c.loop-i-test.true)))
+loop-i-smaller c =
+    omega (
+      arith,
+      next_is (goal.at.loop-i-smaller c).After-wide-i-in-loop-i,
+      c.loop-i-test.true,
+      c.requires.2.filled.links (c.loop-i.i - 1) (omega (arith, c.loop-i.invariant.0, c.loop-i-test.true)),
+    )
 
 pub loop-i-preserved : goal.loop-i-preserved
 loop-i-preserved c = let a = c.args in
     let x = part a.page.now a.a a.e in
     let i = c.loop-i.i in (
-      omega (arith, next_is (goal.at.loop-i-preserved c).After-wide-i-in-loop-i, c.loop-i.invariant.0, c.requires.2.filled.links (i - 1) (omega (arith, c.loop-i.invariant.0, c.loop-i-test.true))),
+      omega (
+        arith,
+        next_is (goal.at.loop-i-preserved c).After-wide-i-in-loop-i,
+        c.loop-i.invariant.0,
+        c.requires.2.filled.links (i - 1) (omega (arith, c.loop-i.invariant.0, c.loop-i-test.true)),
+      ),
       rw (next_is (goal.at.loop-i-preserved c).After-wide-i-in-loop-i)
           (ahead_next a.profile.now a.heads.now x i c.loop-i.invariant.1 (sym c.is_name.ensures ∙ c.if-is_name.false)),
     )

@@ -40,7 +40,10 @@ places c = sym c.tag_places.ensures ∙ c.if-not-tag_places.false
 pub tag_ended-requires : goal.tag_ended-requires
 tag_ended-requires c = let a = c.args in
     let tag : (node_at a.table.now a.h).kind ≡ 1 = sym (ap (λ (n : Node). n.kind) c.row_at-n.ensures) ∙ c.if-n-eq1.true in
-    record { row_words_in_bounds = search rules; tag = (tag, tag_end_lem a.len (node_at a.table.now a.h) tag (places (goal.at.tag_ended-requires c).Else-not-tag_places)) }
+    record {
+      row_words_in_bounds = search rules;
+      tag = (tag, tag_end_lem a.len (node_at a.table.now a.h) tag (places (goal.at.tag_ended-requires c).Else-not-tag_places));
+    }
 
 pub returns-then-n-eq1 : goal.returns-then-n-eq1
 returns-then-n-eq1 c = let a = c.args in

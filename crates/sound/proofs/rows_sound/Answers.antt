@@ -14,7 +14,11 @@ loop-h-init c = (search rules, refl, record { low = search rules; same = refl })
 pub row_sound-requires : goal.row_sound-requires
 row_sound-requires c = let a = c.args in
     let l = c.loop-h in
-    let test = row_sound a.len a.table.now a.count in record { h_lt_count = (omega arith, c.requires, l.invariant.2); by_index = λ j b. row_parent a.len a.table.now a.count j (all_true test l.h j l.invariant.1 b) }
+    let test = row_sound a.len a.table.now a.count in
+    record {
+      h_lt_count = (omega arith, c.requires, l.invariant.2);
+      by_index = λ j b. row_parent a.len a.table.now a.count j (all_true test l.h j l.invariant.1 b);
+    }
 
 pub returns-in_default : goal.returns-in_default
 returns-in_default c = let a = c.args in

@@ -40,7 +40,8 @@ module _ (c : After-struct_known-in-loop-p-2-1) where
   lower = reaching_le (last_at words) row row
 
 pub loop-p-smaller : goal.loop-p-smaller
-loop-p-smaller c = omega (arith, parent_right (goal.at.loop-p-smaller c).After-struct_known-in-loop-p-2-1, lower (goal.at.loop-p-smaller c).After-struct_known-in-loop-p-2-1)
+loop-p-smaller c =
+    omega (arith, parent_right (goal.at.loop-p-smaller c).After-struct_known-in-loop-p-2-1, lower (goal.at.loop-p-smaller c).After-struct_known-in-loop-p-2-1)
 
 pub loop-p-preserved : goal.loop-p-preserved
 loop-p-preserved c = let h : ℕ = c.args.h in
@@ -49,8 +50,15 @@ loop-p-preserved c = let h : ℕ = c.args.h in
     let e : suc (row (goal.at.loop-p-preserved c).After-struct_known-in-loop-p-2-1) ≡ l.p = omega arith in
     let n = c.row_at-m in
     let r : n.result.last ≡ last (row (goal.at.loop-p-preserved c).After-struct_known-in-loop-p-2-1) = ap (λ (n : Node). n.last) n.ensures in
-    let step = climb_step last h (row (goal.at.loop-p-preserved c).After-struct_known-in-loop-p-2-1) n.result.parent (omega arith) (omega arith) (parent_right (goal.at.loop-p-preserved c).After-struct_known-in-loop-p-2-1) in
-    (omega (arith, parent_right (goal.at.loop-p-preserved c).After-struct_known-in-loop-p-2-1, lower (goal.at.loop-p-preserved c).After-struct_known-in-loop-p-2-1), step ∙ ap (reaching last h) e ∙ l.invariant.1)
+    let step = climb_step last h (row (goal.at.loop-p-preserved c).After-struct_known-in-loop-p-2-1) n.result.parent (omega arith) (omega arith)
+    (parent_right (goal.at.loop-p-preserved c).After-struct_known-in-loop-p-2-1) in (
+      omega (
+        arith,
+        parent_right (goal.at.loop-p-preserved c).After-struct_known-in-loop-p-2-1,
+        lower (goal.at.loop-p-preserved c).After-struct_known-in-loop-p-2-1,
+      ),
+      step ∙ ap (reaching last h) e ∙ l.invariant.1,
+    )
 
 pub returns-then-p-eq0-2 : goal.returns-then-p-eq0-2
 returns-then-p-eq0-2 c = let a = c.args in under_top a.table.now a.h c.loop-p.p c.loop-p.invariant.1 a.n c.if-p-eq0-2.true c.loop-p-test.false
