@@ -1,10 +1,14 @@
 -- Names that begin alike: a tag in whose opening that byte does not stand has none of them.
-use mathlib.Core.Path.{◌≡◌, ap, sym, ◌∙◌}
-use mathlib.Core.Bool.{Bool}
-use mathlib.Core.List.{List, [], ◌∷◌}
+use mathlib.Core.Path.{◌≡◌, refl, ap, sym, ◌∙◌}
+use mathlib.Core.Bool.{Bool, true}
+use Rattle.std.specs.List.{starts_with}
+use Rattle.std.proofs.lemmas.Bool.Decides.{Decides-eqb}
+use Rattle.std.proofs.lemmas.Slice.Eq.{starts_is}
+use lib.Dec.{eqb}
+use mathlib.Core.List.{List, []}
 use Prim.Native.Nat.{ℕ, ◌*◌, ◌≤◌, ◌<◌}
 use native.Mathlib.Omega.{arith}
-use lib.ListN.{length, get_or, take, replicate}
+use lib.ListN.{length, drop, replicate}
 use lib.Seq.{length-take-le}
 use Rattle.rules.specs.Scan.{part}
 use Rattle.rules.specs.Words.{Within}
@@ -12,24 +16,17 @@ use Rattle.rules.specs.Lookup.{lookup, up_to}
 use Rattle.rules.specs.Refusals.{held_numbers}
 use Rattle.rules.specs.declared.Node.{Node}
 use Rattle.rules.specs.declared.Held.TheVariants.{Absent}
-use Rattle.rules.proofs.Within.{in_front, within_within}
+use Rattle.rules.proofs.Within.{within_within}
 use Rattle.laws.proofs.CutLexer.{part_cut}
 use Rattle.laws.proofs.Opening.{lookup_out}
 use Rattle.attributes.specs.Noting.{held_words}
 use Rattle.attributes.specs.Slots.{name_at, Alike}
 use Rattle.attributes.proofs.Words.{names_at, names_absent}
 
--- nothing is within each name
-pub alike_none : (s es : List ℕ) → Alike s es []
-alike_none s es j l = in_front (name_at s es j)
-
--- ys begins as xs does
-pub begins_alike : (xs ys : List ℕ) → 2 ≤ length xs → 2 ≤ length ys → get_or ys 0 0 ≡ get_or xs 0 0 → get_or ys 1 0 ≡ get_or xs 1 0 → Within (take 2 xs) ys
-begins_alike [] ys l m e f = absurd (omega arith)
-begins_alike (x ∷ []) ys l m e f = absurd (omega arith)
-begins_alike (x ∷ x' ∷ xs) [] l m e f = absurd (omega arith)
-begins_alike (x ∷ x' ∷ xs) (y ∷ []) l m e f = absurd (omega arith)
-begins_alike (x ∷ x' ∷ xs) (y ∷ y' ∷ ys) l m e f = record { before = []; after = ys; is = rw (e, f) }
+-- what xs starts with is within it
+pub starts_within : (xs k : List ℕ) → true ≡ starts_with eqb xs k → Within k xs
+starts_within xs k e =
+    record { before = []; after = drop (length k) xs; is = (starts_is Decides-eqb xs k true e).0 refl }
 
 module _ (white : ℕ → Bool) (p : List ℕ) (n : Node) (l : n.stop < n.opened) (h : n.opened ≤ length p) where
   q : List ℕ

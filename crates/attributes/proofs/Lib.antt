@@ -1,5 +1,5 @@
 pub mod Notes
-pub mod Slots
+pub mod Slotted
 pub mod Words
 pub mod Noted
 pub mod Reading

@@ -1,16 +1,12 @@
 -- One attribute after the other: what counts for a name in the end is what the lookup answers.
+use Rattle.std.proofs.Common.{Option, Some, None}
 use mathlib.Core.Path.{◌≡◌, refl, ap, sym, ◌∙◌}
 use mathlib.Core.Bool.{Bool, true, false}
 use mathlib.Core.List.{List, [], ◌∷◌}
 use Prim.Native.Nat.{ℕ}
-use native.Mathlib.Omega.{arith}
-use lib.ListN.{get_or}
 use Rattle.rules.specs.Scan.{pick, part, same}
 use Rattle.rules.specs.Lookup.{is_last, held_as, first_of, last_of}
-use Rattle.rules.specs.Refusals.{held_numbers}
 use Rattle.rules.specs.declared.Attribute.{Attribute}
-use Rattle.rules.specs.declared.Value.{Value as Assigned}
-use Rattle.rules.specs.declared.Value.TheVariants.{Missing, Given}
 use Rattle.rules.specs.declared.Held.{Held}
 use Rattle.rules.specs.declared.Held.TheVariants.{Absent, Bare, Value}
 use Rattle.attributes.specs.Noting.{first_held, noted}
@@ -26,9 +22,9 @@ first_absent Bare = refl
 first_absent (Value a e) = refl
 
 -- what has a name is held
-first_value : (v : Held) (value : Assigned) (w : Held) → first_held (first_held v (held_as Bare value)) w ≡ first_held v (held_as Bare value)
-first_value Absent Missing w = refl
-first_value Absent (Given a e) w = refl
+first_value : (v : Held) (value : Option (ℕ × ℕ)) (w : Held) → first_held (first_held v (held_as Bare value)) w ≡ first_held v (held_as Bare value)
+first_value Absent None w = refl
+first_value Absent (Some (a, e)) w = refl
 first_value Bare value w = refl
 first_value (Value a e) value w = refl
 
@@ -61,14 +57,3 @@ module _ (white : ℕ → Bool) (p k : List ℕ) where
       go : (b : Bool) → is_last k ≡ b → all_noted p k Absent xs ≡ pick b (last_of white p k Absent xs) (first_of white p k xs)
       go true y = last_noted y Absent xs
       go false n = first_noted n Absent xs
-
--- the first of the words says whether anything is held
-pub held_absent : (w : List ℕ) (v : Held) → w ≡ held_numbers v → get_or w 0 0 ≡ 0 → v ≡ Absent
-held_absent w Absent q z = refl
-held_absent w Bare q z = absurd (omega (arith, ap (λ (l : List ℕ). get_or l 0 0) q))
-held_absent w (Value a e) q z = absurd (omega (arith, ap (λ (l : List ℕ). get_or l 0 0) q))
-
-pub held_present : (w : List ℕ) (v x : Held) → w ≡ held_numbers v → (get_or w 0 0 ≡ 0 → ⊥) → v ≡ first_held v x
-held_present w Absent x q n = absurd (n (ap (λ (l : List ℕ). get_or l 0 0) q))
-held_present w Bare x q n = refl
-held_present w (Value a e) x q n = refl

@@ -1,4 +1,5 @@
 -- The reading of a tag's attributes, each noted before the next is read.
+use Rattle.std.proofs.Common.{Option, Some, None}
 use mathlib.Core.Path.{◌≡◌, refl, ap, sym, ◌∙◌}
 use mathlib.Core.Bool.{Bool}
 use mathlib.Core.List.{List, [], ◌∷◌}
@@ -8,8 +9,6 @@ use lib.ListN.{length, replicate, length-replicate}
 use Rattle.rules.specs.Lookup.{InsideAssigned, lookup_from}
 use Rattle.rules.specs.Refusals.{page_limit, held_numbers}
 use Rattle.rules.specs.declared.Attribute.{Attribute}
-use Rattle.rules.specs.declared.Value.{Value as Assigned}
-use Rattle.rules.specs.declared.Value.TheVariants.{Missing, Given}
 use Rattle.rules.specs.declared.Held.{Held}
 use Rattle.rules.specs.declared.Held.TheVariants.{Absent}
 use Rattle.rules.proofs.Lookup.{AllInside, attributes_inside}
@@ -19,9 +18,9 @@ use Rattle.attributes.specs.Noting.{held_words, noted, NotesAll, Placed}
 use Rattle.attributes.proofs.Notes.{all_noted, all_noted_lem}
 use Rattle.attributes.proofs.Words.{names_absent, names_same}
 
-inside_page : (n : ℕ) (v : Assigned) → n ≤ page_limit → InsideAssigned n v → InsideAssigned page_limit v
-inside_page n Missing l i = tt
-inside_page n (Given a e) l i = (i.0, omega (arith, i.1))
+inside_page : (n : ℕ) (v : Option (ℕ × ℕ)) → n ≤ page_limit → InsideAssigned n v → InsideAssigned page_limit v
+inside_page n None l i = tt
+inside_page n (Some (a, e)) l i = (i.0, omega (arith, i.1))
 
 module _ (white : ℕ → Bool) (p : List ℕ) where
   pub turn_placed : {i : ℕ} {a : Attribute} → length p ≤ page_limit → Turn white p i a → Placed (length p) a

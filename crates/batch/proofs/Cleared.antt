@@ -5,7 +5,7 @@ use Prim.Native.Nat.{ℕ, suc, ◌+◌, ◌*◌, ◌-◌, ◌≤◌, ◌<◌}
 use native.Mathlib.Omega.{arith}
 use native.Mathlib.Nat.{mul-suc}
 use borrow.Rule.Slice.PartMut.{put_mid, Post-is}
-use lib.ListN.{length, get_or, take, drop, replicate, length-append, length-replicate, replicate-append-replicate}
+use lib.ListN.{length, get_or, take, drop, replicate, length-replicate, replicate-append-replicate}
 use lib.Seq.{take_at, drop_at, drop-drop, take-suc, take_all, length-take-le}
 use Rattle.rules.specs.Lists.{each}
 use Rattle.rules.proofs.Lists.{each_append}
@@ -46,16 +46,6 @@ module _ (W : ℕ → List ℕ) (m : ℕ) (size : (h : ℕ) → length (W h) ≡
         ap (λ (k : ℕ). m * k) z ∙ mul-suc m (length hs - suc i) ∙ omega arith in
         d.words ∙ ap (λ (r : List ℕ). front ++ r) (rw more (sym (replicate-append-replicate m (m * (length hs - suc i)) 0)))
 
-    pub done_room : at + m ≤ length out
-    done_room =
-        omega (
-          arith,
-          ap length cut ∙ length-append front (replicate m 0 ++ zeros (suc i)),
-          long,
-          length-append (replicate m 0) (zeros (suc i)),
-          length-replicate {A = ℕ} m 0,
-        )
-
     -- those of the next handle are zero
     pub done_zeros : take (at + m - at) (drop at out) ≡ replicate m 0
     done_zeros =
@@ -83,30 +73,10 @@ module _ (W : ℕ → List ℕ) (m : ℕ) (size : (h : ℕ) → length (W h) ≡
               (sym (append_assoc front x (zeros (suc i))));
         }
 
--- the first n words of d are cleared, and then lent
-module _ (d w : List ℕ) (n : ℕ) (fits : n ≤ length d) (clears : w ≡ replicate (length (take (n - 0) d)) 0) where
-  abbrev cleared : List ℕ
-  cleared = put_mid 0 (n - 0) d w
+-- the first n words of d are cleared, and are w
+module _ (d w : List ℕ) (n : ℕ) (fits : n ≤ length d) (clears : w ≡ replicate (length (take n d)) 0) where
+  pub cleared : w ≡ replicate n 0
+  cleared = clears ∙ ap (λ (k : ℕ). replicate k 0) (length-take-le n d fits)
 
-  same : n - 0 ≡ n
-  same = omega arith
-
-  zero : w ≡ replicate n 0
-  zero = clears ∙ ap (λ (k : ℕ). replicate k 0) (ap (λ (k : ℕ). length (take k d)) same ∙ length-take-le n d fits)
-
-  width : length w ≡ n
-  width = ap length zero ∙ length-replicate n 0
-
-  whole : cleared ≡ w ++ drop n d
-  whole = rw (Post-is 0 n d (omega arith))
-
-  pub cleared_all : cleared ≡ replicate n 0 ++ drop n d
-  cleared_all = whole ∙ ap (λ (x : List ℕ). x ++ drop n d) zero
-
-  pub cleared_first : take (n - 0) cleared ≡ replicate n 0
-  cleared_first =
-      ap (λ (k : ℕ). take k cleared) same ∙ ap (take n) whole ∙ take_at w (drop n d) n width ∙ zero
-
-  -- x is in their place afterwards
-  pub noted_first : (x : List ℕ) → put_mid 0 (n - 0) cleared x ≡ x ++ drop n d
-  noted_first x = rw (Post-is 0 n cleared (omega arith), whole, drop_at w (drop n d) n width)
+  pub cleared_first : take n (w ++ drop n d) ≡ replicate n 0
+  cleared_first = take_at w (drop n d) n (ap length cleared ∙ length-replicate n 0) ∙ cleared

@@ -1,6 +1,6 @@
 -- Writing a list piece by piece, where it is not known before whether there is room for all of it.
 use mathlib.Core.Path.{◌≡◌, refl, ap, ◌∙◌}
-use mathlib.Core.List.{List, [], ◌++◌}
+use mathlib.Core.List.{List, [], ◌∷◌, ◌++◌}
 use Prim.Native.Nat.{ℕ, ◌+◌, ◌≤◌, ◌<◌}
 use native.Mathlib.Omega.{arith}
 use lib.ListN.{length, length-append}
@@ -40,6 +40,11 @@ module _ {d₀ s₀ d s : List ℕ} {at₀ at : ℕ} (f : Fitting d₀ at₀ s�
           end = omega (arith, f.end, w.next, pieces);
           left = λ m. left_more (f.left m) a b e w;
         }
+
+  -- its first piece is empty
+  pub fitting_skip : (a b : List ℕ) → s ≡ a ++ b → length a ≡ 0 → Fitting d₀ at₀ s₀ d at b
+  fitting_skip [] b e z = fitting_as e
+  fitting_skip (x ∷ a) b e z = absurd (omega arith)
 
   -- nothing is left
   module _ (e : s ≡ []) where

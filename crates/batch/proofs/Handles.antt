@@ -1,6 +1,8 @@
 -- A list of handles, taken one by one: what a loop over it keeps is said of the handles from i on.
 use mathlib.Core.Path.{◌≡◌, refl, ap, ◌∙◌}
-use mathlib.Core.Bool.{Bool, true, false, ◌||◌}
+use mathlib.Core.Bool.{Bool, true, false, not, ◌||◌}
+use Rattle.std.proofs.Common.{IsTrue, ◌↔◌}
+use borrow.Author.Tests.{not-false, le-ltb}
 use mathlib.Core.List.{List, [], ◌∷◌, ◌++◌}
 use Prim.Native.Nat.{ℕ, zero, suc, ◌+◌, ◌*◌, ◌≤◌, ◌<◌}
 use native.Mathlib.Numerals.{add-one}
@@ -10,10 +12,14 @@ use lib.Seq.{drop-cons}
 use Rattle.rules.specs.Lists.{each}
 use Rattle.rules.specs.Buffers.{Wrote}
 use Rattle.rules.specs.Batch.{some}
-use Rattle.rules.specs.Refusals.{not_a_tag}
+use Rattle.rules.specs.Refusals.{page_limit, not_a_tag}
+use Rattle.rules.specs.Table.{node_at}
+use Rattle.rules.specs.Sound.{is_tag}
 use Rattle.rules.proofs.Buffers.{Left, left_room, left_more, left_none}
 use Rattle.rules.proofs.Asking.{SoundTag, sound_tag}
-use Rattle.batch.specs.Batch.{Tags}
+use Rattle.rules.proofs.Sound.{sound_rows}
+use Rattle.batch.specs.Batch.{AllTags}
+use Rattle.batch.specs.declared.Tags.{Tags}
 
 -- a list that was written from the front on
 pub written : {d₀ s d : List ℕ} {at : ℕ} → Wrote d₀ 0 s d at → d ≡ s ++ drop (length s) d₀
@@ -23,14 +29,6 @@ written {d₀} {s} w = let z : 0 + length s ≡ length s = omega arith in w.buff
 module _ (hs : List ℕ) (i : ℕ) where
   pub next : i < length hs → drop i hs ≡ get_or hs i 0 ∷ drop (i + 1) hs
   next l = rw add-one (drop-cons hs i 0 l)
-
-  pub some_next : (f : ℕ → Bool) → i < length hs → some f (drop i hs) ≡ (f (get_or hs i 0) || some f (drop (i + 1) hs))
-  unfolding some
-  some_next f l = rw (next l)
-
-  pub some_end : (f : ℕ → Bool) → length hs ≤ i → some f (drop i hs) ≡ false
-  unfolding some
-  some_end f l = rw (drop_of_length-le hs l)
 
   module _ (F : ℕ → List ℕ) where
     pub each_next : i < length hs → each F (drop i hs) ≡ F (get_or hs i 0) ++ each F (drop (i + 1) hs)
@@ -63,13 +61,37 @@ or_none : (a b : Bool) → (a || b) ≡ false → (a ≡ false) × (b ≡ false)
 or_none true b e = absurd (let z : ◌≡◌ {A = ℕ} 0 1 = cc in omega arith)
 or_none false b e = (refl, e)
 
--- none passes the test: not the one at i
-pub none_at : (f : ℕ → Bool) (hs : List ℕ) (i : ℕ) → i < length hs → some f hs ≡ false → f (get_or hs i 0) ≡ false
-unfolding some
-none_at f [] i l e = absurd (omega arith)
-none_at f (h ∷ hs) zero l e = (or_none (f h) (some f hs) e).0
-none_at f (h ∷ hs) (suc i) l e = none_at f hs i (omega arith) (or_none (f h) (some f hs) e).1
+-- the test of all handles says whether each is a tag's
+module _ (ws : List ℕ) where
+  some_none : (hs : List ℕ) → AllTags ws hs → some (not_a_tag ws) hs ≡ false
+  unfolding some
+  some_none [] a = refl
+  some_none (h ∷ hs) a = rw (a 0 (omega arith)) (some_none hs (λ i l. a (suc i) (omega arith)))
+
+  none_each : (hs : List ℕ) → some (not_a_tag ws) hs ≡ false → AllTags ws hs
+  unfolding some
+  none_each [] e i l = absurd (omega arith)
+  none_each (h ∷ hs) e zero l = not-false (is_tag ws h) (or_none (not_a_tag ws h) (some (not_a_tag ws) hs) e).0
+  none_each (h ∷ hs) e (suc i) l = none_each hs (or_none (not_a_tag ws h) (some (not_a_tag ws) hs) e).1 i (omega arith)
+
+  pub tags_test : (hs : List ℕ) (b : Bool) → (IsTrue b ↔ AllTags ws hs) → some (not_a_tag ws) hs ≡ not b
+  tags_test hs true t = some_none hs (t.0 refl)
+  tags_test hs false t = go (some (not_a_tag ws) hs) refl
+    where
+      go : (s : Bool) → some (not_a_tag ws) hs ≡ s → s ≡ true
+      go true e = refl
+      go false e = t.1 (none_each hs e)
 
 -- the handle at i is a tag's
-pub tag_at : (p ws hs : List ℕ) → Tags p ws hs → (i : ℕ) → i < length hs → SoundTag p ws (get_or hs i 0)
-tag_at p ws hs t i l = sound_tag p ws (get_or hs i 0) t.sound_table (none_at (not_a_tag ws) hs i l t.tests)
+pub tag_at : (t : Tags) (i : ℕ) → i < length t.handles.now → SoundTag t.document.page.now t.document.table.now (get_or t.handles.now i 0)
+tag_at t i l =
+    let p = t.document.page.now in
+    let ws = t.document.table.now in
+    sound_tag p ws (get_or t.handles.now i 0) (record { short = le-ltb page_limit (length p) t.short; table = t.document.fits })
+    (ap not (t.each i l))
+
+-- its name ends before its opening does, which lies in the page
+pub opening : (p ws : List ℕ) {h : ℕ} → SoundTag p ws h → ((node_at ws h).stop < (node_at ws h).opened) × ((node_at ws h).opened ≤ length p)
+opening p ws {h} s =
+    let r = sound_rows (length p) ws s.sound_table.table h s.below in
+    let t = r.tag s.tag in (omega arith, omega (arith, r.end_len))

@@ -1,12 +1,7 @@
-pub mod Checks
 pub mod Handles
 pub mod Three
-pub mod Parts
 pub mod Names
 pub mod Cleared
-pub mod Room
-pub mod Fills
-pub mod Puts
 pub mod Fitting
 pub mod Texts
 pub mod Skipping

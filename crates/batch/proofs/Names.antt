@@ -2,10 +2,10 @@
 use mathlib.Core.Path.{◌≡◌, refl, sym, ◌∙◌}
 use mathlib.Core.Bool.{Bool}
 use mathlib.Core.List.{List, [], ◌∷◌}
-use Prim.Native.Nat.{ℕ, suc, ◌+◌, ◌*◌, ◌≤◌, ◌<◌}
+use Prim.Native.Nat.{ℕ, suc, ◌+◌, ◌*◌, ◌<◌}
 use native.Mathlib.Nat.{mul-suc}
 use native.Mathlib.Omega.{arith}
-use lib.ListN.{length, drop, get_or, replicate, replicate-append-replicate}
+use lib.ListN.{length, get_or, replicate, replicate-append-replicate}
 use Rattle.rules.specs.Bytes.{is_white}
 use Rattle.rules.specs.Table.{node_at}
 use Rattle.rules.specs.Lookup.{lookup}
@@ -13,15 +13,13 @@ use Rattle.rules.specs.Lists.{each}
 use Rattle.rules.specs.Refusals.{held_numbers}
 use Rattle.rules.specs.Batch.{each_name, three_of}
 use Rattle.rules.specs.declared.Node.{Node}
-use Rattle.rules.proofs.Buffers.{Left}
 use Rattle.rules.proofs.Asking.{SoundTag}
 use Rattle.attributes.specs.Noting.{held_words}
 use Rattle.attributes.specs.Slots.{Alike}
 use Rattle.attributes.proofs.Words.{length_names, names_same}
 use Rattle.attributes.proofs.Alike.{absent_words}
-use Rattle.calls.proofs.Tags.{opening}
-use Rattle.batch.specs.Batch.{Tags, Unnamed}
-use Rattle.batch.proofs.Handles.{length_each, room_next, tag_at}
+use Rattle.batch.specs.Batch.{Unnamed}
+use Rattle.batch.proofs.Handles.{length_each, opening}
 use Rattle.batch.proofs.Three.{three_length, three_tag}
 
 module _ (p ws s es : List ℕ) where
@@ -33,11 +31,6 @@ module _ (p ws s es : List ℕ) where
 
   pub words_all : (hs : List ℕ) → length (each words hs) ≡ 3 * (length es * length hs)
   words_all hs = length_each words (3 * length es) words_length hs ∙ omega arith
-
-  -- what the handles from i on hold is left to be written: there is room for the words of the next
-  pub words_room : (hs : List ℕ) (i : ℕ) {d₀ s₀ d : List ℕ} {at : ℕ} → Left d₀ 0 s₀ d at (each words (drop i hs)) → i < length hs
-      → at + 3 * length es ≤ length d
-  words_room hs i f l = omega (arith, room_next hs i words f l, words_length (get_or hs i 0))
 
   -- at a tag
   pub words_tag : {h : ℕ} → SoundTag p ws h → {white : ℕ → Bool} → white ≡ is_white → {n : Node} → n ≡ node_at ws h
@@ -59,10 +52,11 @@ module _ (p ws s es : List ℕ) where
         zeros_each hs (λ i l. q (suc i) (omega arith)),
       )
 
-  pub words_none : (hs k : List ℕ) → Tags p ws hs → Alike s es k → Unnamed p ws k hs → replicate (3 * length es * length hs) 0 ≡ each words hs
+  pub words_none : (hs k : List ℕ) → ((i : ℕ) → i < length hs → SoundTag p ws (get_or hs i 0)) → Alike s es k
+      → Unnamed p ws k hs → replicate (3 * length es * length hs) 0 ≡ each words hs
   words_none hs k t alike none =
       zeros_each hs
       (λ i l.
-      let x = tag_at p ws hs t i l in
-      let o = opening p ws (get_or hs i 0) x in
+      let x = t i l in
+      let o = opening p ws x in
       sym (absent_words is_white p (node_at ws (get_or hs i 0)) o.0 o.1 s es k alike (none i l) ∙ words_tag x refl refl))

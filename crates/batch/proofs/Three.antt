@@ -1,4 +1,5 @@
 -- The three words of a handle.
+use Rattle.std.proofs.Common.{Result, Ok, Err}
 use mathlib.Core.Path.{◌≡◌, refl, ◌∙◌}
 use mathlib.Core.Bool.{Bool}
 use mathlib.Core.List.{List}
@@ -15,15 +16,14 @@ use Rattle.rules.specs.Batch.{three_of}
 use Rattle.rules.specs.declared.Node.{Node}
 use Rattle.rules.specs.declared.Held.{Held}
 use Rattle.rules.specs.declared.Held.TheVariants.{Absent, Bare, Value}
-use Rattle.rules.specs.declared.Asked.{Asked}
-use Rattle.rules.specs.declared.Asked.TheVariants.{Holds, Refused}
 use Rattle.rules.proofs.Asking.{SoundTag, answered_tag}
 use Rattle.tag.specs.Tag.{Looked}
 use Rattle.attributes.proofs.Words.{held_length}
+use Rattle.rules.specs.declared.Refusal.{Refusal}
 
-asked_length : (r : Asked) → length (drop 1 (asked_numbers r)) ≡ 3
-asked_length (Holds v) = held_length v
-asked_length (Refused x) = refl
+asked_length : (r : Result Held Refusal) → length (drop 1 (asked_numbers r)) ≡ 3
+asked_length (Ok v) = held_length v
+asked_length (Err x) = refl
 
 inside : (n : ℕ) (v : Held) → ((a e : ℕ) → v ≡ Value a e → (a ≤ e) × (e ≤ n)) → Inside n v
 inside n Absent f = tt
@@ -40,7 +40,7 @@ module _ (p ws k : List ℕ) (h : ℕ) where
   -- at a tag they say what it holds
   pub three_tag : SoundTag p ws h → three ≡ held_numbers (lookup is_white p (node_at ws h) k)
   unfolding attribute_answer
-  three_tag s = rw (answered_tag p ws h Refused (Holds (lookup is_white p (node_at ws h) k)) s)
+  three_tag s = rw (answered_tag p ws h (Ok (lookup is_white p (node_at ws h) k)) s)
 
   -- v was looked up there
   module _ (s : SoundTag p ws h) {white : ℕ → Bool} (w : white ≡ is_white) {n : Node} (q : n ≡ node_at ws h) {v : Held} (l : Looked white p n k v) where

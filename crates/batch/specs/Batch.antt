@@ -1,43 +1,38 @@
 -- What is known of a list of handles once refusals 1, 3 and 4 are past, and what is promised of the buffers.
-use Rattle.std.specs.Prelude.{Bool, false, ◌&&◌, ◌||◌, ◌≡◌, List, [], ℕ, ◌+◌, ◌*◌, ◌/◌, ◌%◌, ◌≤◌, ◌<◌, eqb, ltb, length, get_or}
+use Rattle.std.specs.Prelude.{Bool, true, EachIndex, slice_index, ◌&&◌, ◌||◌, ◌≡◌, List, [], ℕ, ◌+◌, ◌*◌, ◌/◌}
+use Rattle.std.specs.Prelude.{◌%◌, ◌≤◌, ◌<◌, eqb, ltb, length, get_or, Option, MatchOption, Result, Ok, Err, ⊤}
 use Rattle.rules.specs.Scan.{pick, part}
 use Rattle.rules.specs.Words.{Within}
 use Rattle.rules.specs.Table.{node_at}
-use Rattle.rules.specs.Sound.{count_of}
+use Rattle.rules.specs.Sound.{count_of, is_tag}
 use Rattle.rules.specs.Text.{text_at}
 use Rattle.rules.specs.Buffers.{Wrote}
-use Rattle.rules.specs.Refusals.{Sound, asking, not_a_tag, filled_by}
+use Rattle.rules.specs.Refusals.{asking, not_a_tag, filled_by}
 use Rattle.rules.specs.Batch.{some, texts_found, ends_found}
 use Rattle.rules.specs.declared.Refusal.TheVariants.{NotATag, BufferTooShort}
-use Rattle.rules.specs.declared.Checked.{Checked}
-use Rattle.rules.specs.declared.Checked.TheVariants.{Fine, Refused}
-use Rattle.rules.specs.declared.Counted.{Counted}
-use Rattle.rules.specs.declared.Counted.TheVariants.{Count, Refused as Uncounted}
-use Rattle.batch.specs.declared.Put.{Put}
-use Rattle.batch.specs.declared.Put.TheVariants.{Until, Short}
+use Rattle.rules.specs.declared.Refusal.{Refusal}
 
 -- refusals 1, 3 and 4
-abbrev pub tags_checked : List ℕ → List ℕ → List ℕ → Checked
-tags_checked p ws hs = asking Refused p ws (pick (some (not_a_tag ws) hs) (Refused NotATag) Fine)
+abbrev pub tags_checked : List ℕ → List ℕ → List ℕ → Result ⊤ Refusal
+tags_checked p ws hs = asking p ws (pick (some (not_a_tag ws) hs) (Err NotATag) (Ok tt))
 
--- the table is sound, and each handle is a tag's
-pub record Tags (p ws hs : List ℕ) : Type 0 where
-  pub sound_table : Sound p ws
-  pub tests : some (not_a_tag ws) hs ≡ false
+-- each handle is a tag's
+abbrev pub AllTags : List ℕ → List ℕ → Type 0
+AllTags ws hs = EachIndex hs (λ k. is_tag ws (slice_index hs k) ≡ true)
 
 -- refusal 7, or the count
-abbrev pub unless : Bool → ℕ → Counted
-unless short n = pick short (Uncounted BufferTooShort) (Count n)
+abbrev pub unless : Bool → ℕ → Result ℕ Refusal
+unless short n = pick short (Err BufferTooShort) (Ok n)
 
 -- the answer, and the two lent buffers afterwards
-pub record FilledBoth (answer : Counted) (places bytes : List ℕ) (r : Counted) (ends out : List ℕ) : Type 0 where
+pub record FilledBoth (answer : Result ℕ Refusal) (places bytes : List ℕ) (r : Result ℕ Refusal) (ends out : List ℕ) : Type 0 where
   pub is : r ≡ answer
   pub ends_left : ends ≡ places
   pub out_left : out ≡ bytes
 
 -- what the texts of the handles leave in the lent places e and bytes b; `few`: there are too few places
 module _ (p ws hs e b : List ℕ) where
-  abbrev pub TextsLeft : Bool → Counted → List ℕ → List ℕ → Type 0
+  abbrev pub TextsLeft : Bool → Result ℕ Refusal → List ℕ → List ℕ → Type 0
   TextsLeft few r ends out =
       FilledBoth
       (unless (few || ltb (length b) (length (texts_found p ws hs))) (length hs))
@@ -48,10 +43,9 @@ module _ (p ws hs e b : List ℕ) where
       out
 
 -- the text s was written into the lent bytes b from `at` on, or there is no room for it
-pub record Puts (s b : List ℕ) (at : ℕ) (r : Put) (out : List ℕ) : Type 0 where
+pub record Puts (s b : List ℕ) (at : ℕ) (r : Option ℕ) (out : List ℕ) : Type 0 where
   pub size : length out ≡ length b
-  pub until : (e : ℕ) → r ≡ Until e → Wrote b at s out e × (at + length s ≤ length b)
-  pub short : r ≡ Short → length b < at + length s
+  pub end : MatchOption r (length b < at + length s) (λ e. Wrote b at s out e × (at + length s ≤ length b))
 
 -- k stands in no handle's opening
 abbrev pub Unnamed : List ℕ → List ℕ → List ℕ → List ℕ → Type 0
@@ -76,6 +70,6 @@ abbrev pub next_text : List ℕ → ℕ → ℕ → ℕ
 next_text skip step k = pick (eqb (k % step) 0 && ltb (k / step) (length skip)) (get_or skip (k / step) 0) k
 
 -- what is filled in leaves no text out
-pub record Skips (p ws : List ℕ) (step : ℕ) (skip : List ℕ) : Type 0 where
+pub record PassesNoText (p ws : List ℕ) (step : ℕ) (skip : List ℕ) : Type 0 where
   pub some : 0 < step
   pub passes : (j : ℕ) → j < length skip → Passes p ws (step * j) (get_or skip j 0)

@@ -2,19 +2,23 @@
 
 #![tactic(auto)]
 
-ghost use Rattle.std.specs.Prelude.{◌≡◌, true, false, not, ◌++◌, ◌+◌, ◌*◌, ◌≤◌, ◌<◌, ltb, length, drop, replicate};
+ghost use Rattle.std.specs.Prelude.{◌≡◌, ◌↔◌, IsTrue, IfOk, true, false, not, ◌++◌, ◌+◌, ◌*◌, ◌≤◌, ◌<◌, ltb, length, drop, replicate};
 ghost use Rattle.rules.specs.Bytes.{is_white};
-ghost use Rattle.rules.specs.Sound.{count_of, sound};
+ghost use Rattle.rules.specs.Sound.{count_of};
 ghost use Rattle.rules.specs.Text.{inner_text};
-ghost use Rattle.rules.specs.Refusals.{page_limit, not_a_tag, held_numbers, filled_by};
+ghost use Rattle.rules.specs.Refusals.{page_limit, held_numbers, filled_by};
 ghost use Rattle.rules.specs.Buffers.{Wrote};
-ghost use Rattle.rules.specs.Batch.{some, attributes_found, attributes_answer, attributes_buffer, names_found, names_answer, names_buffer, texts_answer, texts_buffer, ends_buffer};
+ghost use Rattle.rules.specs.Batch.{attributes_found, attributes_answer, attributes_buffer, names_found, names_answer, names_buffer};
+ghost use Rattle.rules.specs.Batch.{texts_answer, texts_buffer, ends_buffer};
 ghost use Rattle.rules.specs.Lookup.{Inside};
 ghost use Rattle.attributes.specs.Slots.{Alike};
-ghost use Rattle.calls.specs.Calls.{Filled};
-ghost use Rattle.batch.specs.Batch.{tags_checked, Tags, unless, FilledBoth, Unnamed, TextsLeft, Passes, Covers, Skips, next_text, Puts};
+ghost use Rattle.calls.specs.Calls.{Filled, told};
+ghost use Rattle.batch.specs.Batch.{tags_checked, AllTags, unless, FilledBoth, Unnamed, TextsLeft, Passes, Covers, PassesNoText, next_text, Puts};
 
-use rules::{Checked, Counted, Held, Refusal};
+use attributes::{Names, Slots};
+use rules::{Held, Refusal};
+use scan::Marks;
+use sound::Document;
 
 // The most rows that a reading makes (`most` of NodeBound in crates/maxnodes), and rows enough for a short page, for which less
 // is cleared.
@@ -24,35 +28,32 @@ const FEW: usize = 4096;
 
 // ---- the checks that come before the answers
 
+// A document whose page is not too long, and handles that are each a tag's.
+#[derive(Clone, Copy)]
+struct Tags<'a> {
+    document: Document<'a>,
+    handles: &'a [u32],
+    ghost short: { length document.page.now ≤ page_limit },
+    ghost each: { AllTags document.table.now handles.now },
+}
+
 // Whether each handle is a tag's.
-fn all_tags(table: &[u32], len: usize, handles: &[u32]) -> bool
-    requires { sound len table.now ≡ true }
-    ensures { result ≡ not (some (not_a_tag table.now) handles.now) }
+fn all_tags(d: &Document, handles: &[u32]) -> bool
+    ensures { IsTrue result ↔ AllTags d.now.table.now handles.now }
 {
-    let mut i = 0;
-    while i < handles.len() {
-        let h = handles[i] as usize;
-        if !tag::is_tag(table, len, h) {
-            return false;
-        }
-        i += 1;
-    }
-    true
+    handles.iter().all(|&h| d.is_tag(h as usize))
 }
 
 // Refusals 1, 3 and 4.
-fn check_tags(page: &[u8], table: &[u32], handles: &[u32]) -> Checked
-    ensures { result ≡ tags_checked page.now table.now handles.now }
+fn check_tags<'a>(page: &'a [u8], table: &'a [u32], handles: &'a [u32]) -> Result<Tags<'a>, Refusal>
+    ensures answer { told result ≡ tags_checked page.now table.now handles.now }
+    ensures lent { IfOk result (λ t. (t.document.page.now ≡ page.now) × (t.document.table.now ≡ table.now) × (t.handles.now ≡ handles.now)) }
 {
-    match calls::check(page, table) {
-        Checked::Refused(why) => Checked::Refused(why),
-        Checked::Fine => {
-            if all_tags(table, page.len(), handles) {
-                return Checked::Fine;
-            }
-            Checked::Refused(Refusal::NotATag)
-        }
+    let document = calls::check(page, table)?;
+    if all_tags(&document, handles) {
+        return Ok(Tags { document, handles });
     }
+    Err(Refusal::NotATag)
 }
 
 // ---- attributes
@@ -68,55 +69,48 @@ fn put_held(held: Held, out: &mut [u32], at: usize) -> usize
 }
 
 // Writes what each tag holds for the name. The table of marks is made once.
-fn put_attributes(page: &[u8], table: &[u32], handles: &[u32], name: &[u8], out: &mut [u32])
-    requires { Tags page.now table.now handles.now × (3 * length handles.now ≤ length out.old) }
-    ensures { let found = attributes_found is_white page.now table.now handles.now name.now in
+fn put_attributes(tags: &Tags, name: &[u8], out: &mut [u32])
+    requires { 3 * length tags.now.handles.now ≤ length out.old }
+    ensures { let d = tags.now.document in
+        let found = attributes_found is_white d.page.now d.table.now tags.now.handles.now name.now in
         out.new ≡ found ++ drop (length found) out.old }
 {
-    let t = scan::mark_table();
+    let t = Marks::new();
+    let d = &tags.document;
     let mut at = 0;
-    let mut i = 0;
-    while i < handles.len() {
-        let h = handles[i] as usize;
-        let n = table::row_at(table, h);
-        let held = tag::attribute(&t, page, n, name);
+    for &h in tags.handles {
+        let held = tag::attribute(&t, d.page, d.row(h as usize), name);
         at = put_held(held, out, at);
-        i += 1;
     }
 }
 
 // The attributes of tags, or refusal 7.
-fn list_attributes(
-    page: &[u8],
-    table: &[u32],
-    handles: &[u32],
-    name: &[u8],
-    out: &mut [u32],
-) -> Counted
-    requires { Tags page.now table.now handles.now }
-    ensures { let hs = handles.now in
+fn list_attributes(tags: &Tags, name: &[u8], out: &mut [u32]) -> Result<usize, Refusal>
+    ensures { let d = tags.now.document in
+        let hs = tags.now.handles.now in
         let b = out.old in
-        let found = attributes_found is_white page.now table.now hs name.now in
+        let found = attributes_found is_white d.page.now d.table.now hs name.now in
         Filled (unless (ltb (length b) (3 * length hs)) (length hs)) (filled_by b found result) result out.new }
 {
-    let n = handles.len();
+    let n = tags.handles.len();
     // three words each; a product might not fit
     if out.len() / 3 < n {
-        return calls::refuse(out, Refusal::BufferTooShort);
+        return table::refuse(out, Refusal::BufferTooShort);
     }
-    put_attributes(page, table, handles, name, out);
-    Counted::Count(n)
+    put_attributes(tags, name, out);
+    Ok(n)
 }
 
 // What each tag of a list holds for an attribute name, three words each: which of the three held (0 absent, 1 without a value,
 // 2 with a value), and where a value starts and ends.
+#[tactic(auto, unfolding(rules::specs::Batch::batch_answer, rules::specs::Batch::attributes_answer, rules::specs::Batch::attributes_buffer))]
 pub fn attributes(
     page: &[u8],
     table: &[u32],
     handles: &[u32],
     name: &[u8],
     out: &mut [u32],
-) -> Counted
+) -> Result<usize, Refusal>
     ensures { let p = page.now in
         let ws = table.now in
         let hs = handles.now in
@@ -125,8 +119,8 @@ pub fn attributes(
         Filled (attributes_answer is_white p ws hs (length b)) (attributes_buffer is_white p ws hs k b) result out.new }
 {
     match check_tags(page, table, handles) {
-        Checked::Refused(why) => calls::refuse(out, why),
-        Checked::Fine => list_attributes(page, table, handles, name, out),
+        Err(why) => table::refuse(out, why),
+        Ok(tags) => list_attributes(&tags, name, out),
     }
 }
 
@@ -136,109 +130,85 @@ pub fn attributes(
 fn has_room(room: usize, names: usize, handles: usize) -> bool
     ensures { result ≡ not (ltb room (3 * (names * handles))) }
 {
-    if names == 0 {
-        return true;
-    }
-    handles <= room / 3 / names
+    names == 0 || handles <= room / 3 / names
 }
 
 // Whether no tag has any of the names, which all begin with `first`, as far as a quick test tells.
-fn none_named(page: &[u8], table: &[u32], handles: &[u32], first: &[u8]) -> bool
-    requires { Tags page.now table.now handles.now }
-    ensures { result ≡ true → Unnamed page.now table.now first.now handles.now }
+fn none_named(tags: &Tags, first: &[u8]) -> bool
+    ensures { let d = tags.now.document in
+        result ≡ true → Unnamed d.page.now d.table.now first.now tags.now.handles.now }
 {
-    let mut i = 0;
-    while i < handles.len() {
-        let h = handles[i] as usize;
-        let n = table::row_at(table, h);
-        if attributes::may_have_any(page, n, first) {
+    let d = &tags.document;
+    for &h in tags.handles {
+        if attributes::may_have_any(d.page, d.row(h as usize), first) {
             return false;
         }
-        i += 1;
     }
     true
 }
 
 // Writes what each tag holds for each name, which all begin with `first`, into words that are lent all zero. The marks and the names'
 // slots are made once, and each tag's attributes are read once.
-fn read_names(
-    page: &[u8],
-    table: &[u32],
-    handles: &[u32],
-    first: &[u8],
-    names: &[u8],
-    ends: &[usize],
-    out: &mut [u32],
-)
-    requires tags { Tags page.now table.now handles.now × Alike names.now ends.now first.now }
-    requires out_value { out.old ≡ replicate (3 * length ends.now * length handles.now) 0 }
-    ensures { out.new ≡ names_found is_white page.now table.now handles.now names.now ends.now }
+fn read_names(tags: &Tags, names: &Names, first: &[u8], out: &mut [u32])
+    requires alike { Alike names.now.text.now names.now.ends.now first.now }
+    requires zeros { out.old ≡ replicate (3 * length names.now.ends.now * length tags.now.handles.now) 0 }
+    ensures { let d = tags.now.document in
+        out.new ≡ names_found is_white d.page.now d.table.now tags.now.handles.now names.now.text.now names.now.ends.now }
 {
-    let t = scan::mark_table();
-    let mut slots = [0u8; 256];
-    attributes::fill_slots(&mut slots, names, ends);
+    let t = Marks::new();
+    let mut of = [0u8; 256];
+    attributes::fill_slots(&mut of, names);
+    let slots = Slots {
+        names: *names,
+        of: &of,
+    };
+    let d = &tags.document;
     let mut at = 0;
-    let mut i = 0;
-    while i < handles.len() {
-        let h = handles[i] as usize;
-        let n = table::row_at(table, h);
-        let end = at + 3 * ends.len();
-        attributes::attributes(&t, &slots, page, n, first, names, ends, &mut out[at..end]);
+    for &h in tags.handles {
+        let n = d.row(h as usize);
+        let end = at + 3 * names.len();
+        attributes::attributes(&t, &slots, d.page, n, first, &mut out[at..end]);
         at = end;
-        i += 1;
     }
 }
 
 // Writes what each tag holds for each name. All words are cleared at once: to clear each tag's took a call for few words. Where a quick
 // test tells that no tag has any of the names, neither marks nor slots are made.
-fn put_names(
-    page: &[u8],
-    table: &[u32],
-    handles: &[u32],
-    names: &[u8],
-    ends: &[usize],
-    out: &mut [u32],
-)
-    requires { Tags page.now table.now handles.now × (3 * (length ends.now * length handles.now) ≤ length out.old) }
-    ensures { let found = names_found is_white page.now table.now handles.now names.now ends.now in
+fn put_names(tags: &Tags, names: &Names, out: &mut [u32])
+    requires { 3 * (length names.now.ends.now * length tags.now.handles.now) ≤ length out.old }
+    ensures { let d = tags.now.document in
+        let found = names_found is_white d.page.now d.table.now tags.now.handles.now names.now.text.now names.now.ends.now in
         out.new ≡ found ++ drop (length found) out.old }
 {
-    let all = 3 * (ends.len() * handles.len());
-    table::clear(&mut out[0..all]);
-    let alike = attributes::begun_alike(names, ends);
-    let first = &names[0..alike];
-    if none_named(page, table, handles, first) {
+    let all = 3 * (names.len() * tags.handles.len());
+    out[..all].fill(0);
+    let first = names.begun_alike();
+    if none_named(tags, first) {
         return;
     }
-    read_names(page, table, handles, first, names, ends, &mut out[0..all]);
+    read_names(tags, names, first, &mut out[..all]);
 }
 
 // The attributes of tags for each name, or refusal 7.
-fn list_names(
-    page: &[u8],
-    table: &[u32],
-    handles: &[u32],
-    names: &[u8],
-    ends: &[usize],
-    out: &mut [u32],
-) -> Counted
-    requires { Tags page.now table.now handles.now }
-    ensures { let hs = handles.now in
-        let es = ends.now in
+fn list_names(tags: &Tags, names: &Names, out: &mut [u32]) -> Result<usize, Refusal>
+    ensures { let d = tags.now.document in
+        let hs = tags.now.handles.now in
+        let es = names.now.ends.now in
         let b = out.old in
-        let found = names_found is_white page.now table.now hs names.now es in
+        let found = names_found is_white d.page.now d.table.now hs names.now.text.now es in
         Filled (unless (ltb (length b) (3 * (length es * length hs))) (length hs)) (filled_by b found result) result out.new }
 {
-    let n = handles.len();
-    if !has_room(out.len(), ends.len(), n) {
-        return calls::refuse(out, Refusal::BufferTooShort);
+    let n = tags.handles.len();
+    if !has_room(out.len(), names.len(), n) {
+        return table::refuse(out, Refusal::BufferTooShort);
     }
-    put_names(page, table, handles, names, ends, out);
-    Counted::Count(n)
+    put_names(tags, names, out);
+    Ok(n)
 }
 
 // What each tag of a list holds for each of several attribute names, three words for each name, a tag's words together. The names
 // stand in one text, each from the end of the one before up to its place in `ends`.
+#[tactic(auto, unfolding(rules::specs::Batch::batch_answer, rules::specs::Batch::names_answer, rules::specs::Batch::names_buffer))]
 pub fn attributes_for_names(
     page: &[u8],
     table: &[u32],
@@ -246,7 +216,7 @@ pub fn attributes_for_names(
     names: &[u8],
     ends: &[usize],
     out: &mut [u32],
-) -> Counted
+) -> Result<usize, Refusal>
     ensures { let p = page.now in
         let ws = table.now in
         let hs = handles.now in
@@ -256,239 +226,211 @@ pub fn attributes_for_names(
         Filled (names_answer is_white p ws hs es (length b)) (names_buffer is_white p ws hs s es b) result out.new }
 {
     match check_tags(page, table, handles) {
-        Checked::Refused(why) => calls::refuse(out, why),
-        Checked::Fine => list_names(page, table, handles, names, ends, out),
+        Err(why) => table::refuse(out, why),
+        Ok(tags) => list_names(&tags, &Names { text: names, ends }, out),
     }
 }
 
 // ---- inner texts
 
-// A refusal leaves both buffers all zero.
-fn refuse_texts(ends: &mut [usize], out: &mut [u8], why: Refusal) -> Counted
+// A refusal leaves both buffers all zero. They go by themselves, as the C interface lends them.
+fn refuse_texts(ends: &mut [usize], out: &mut [u8], why: Refusal) -> Result<usize, Refusal>
     ensures { let e = replicate (length ends.old) 0 in
         let b = replicate (length out.old) 0 in
-        FilledBoth (Counted.Refused why) e b result ends.new out.new }
+        FilledBoth (Err why) e b result ends.new out.new }
 {
-    table::clear_places(ends);
-    table::clear_bytes(out);
-    Counted::Refused(why)
+    ends.fill(0);
+    out.fill(0);
+    Err(why)
 }
 
-// ---- `skip` holds for every `step`-th row the lowest row from it on that has text: tags that lie in each other would else be
-// walked through once for each of them
+// Where to look for text: for every `step`-th row the lowest row from it on that has any. Tags that lie in each other would else be
+// walked through once for each of them.
+#[derive(Clone, Copy)]
+struct Skips<'a> {
+    tags: Tags<'a>,
+    next: &'a [u32],
+    step: usize,
+    ghost passes: { PassesNoText tags.document.page.now tags.document.table.now step next.now },
+}
+
+impl<'a> Skips<'a> {
+    // Where to look for text from row k on: between the rows that are filled in, in each.
+    fn next_text(&self, k: usize) -> usize
+        ensures { result ≡ next_text self.now.next.now self.now.step k }
+    {
+        // every row is filled in: a division would cost more than the walk
+        if self.step == 1 {
+            if k < self.next.len() {
+                return self.next[k] as usize;
+            }
+            return k;
+        }
+        let j = k / self.step;
+        if k % self.step == 0 && j < self.next.len() {
+            return self.next[j] as usize;
+        }
+        k
+    }
+}
 
 // The lowest row of those below `to` and from `from` on that has text. Else it is `next`, which is the lowest from `to` on.
-fn lowest_text(page: &[u8], table: &[u32], from: usize, to: usize, next: usize) -> usize
-    requires { (sound (length page.now) table.now ≡ true) × (from ≤ to) × Passes page.now table.now to next }
-    ensures { Passes page.now table.now from result }
+fn lowest_text(d: &Document, from: usize, to: usize, next: usize) -> usize
+    requires { (from ≤ to) × Passes d.now.page.now d.now.table.now to next }
+    ensures { Passes d.now.page.now d.now.table.now from result }
 {
-    let mut lowest = next;
-    let mut k = to;
-    while from < k {
-        k -= 1;
-        let n = table::row_at(table, k);
-        if tag::text_size(page, n) != 0 {
-            lowest = k;
+    for k in from..to {
+        let size = tag::text_of(d.page, d.row(k)).len();
+        if size != 0 {
+            return k;
         }
     }
-    lowest
+    next
 }
 
-// Fills `skip`, from the last row down.
-fn fill_skips(page: &[u8], table: &[u32], step: usize, skip: &mut [u32])
-    requires { (sound (length page.now) table.now ≡ true) × Covers (count_of table.now) step (length skip.old) }
-    ensures { Skips page.now table.now step skip.new }
+// Fills the table of skips, from the last row down.
+fn fill_skips(d: &Document, step: usize, skip: &mut [u32])
+    requires { Covers (count_of d.now.table.now) step (length skip.old) }
+    ensures { PassesNoText d.now.page.now d.now.table.now step skip.new }
 {
-    let count = table[0] as usize;
-    let mut next = count;
-    let mut to = count;
-    let mut j = skip.len();
-    while 0 < j {
-        j -= 1;
+    let mut to = d.count();
+    let mut next = to;
+    for j in (0..skip.len()).rev() {
         let from = step * j;
-        next = lowest_text(page, table, from, to, next);
+        next = lowest_text(d, from, to, next);
         skip[j] = next as u32;
         to = from;
     }
 }
 
-// Where to look for text from row k on: between the rows that are filled in, in each.
-fn next_text(skip: &[u32], step: usize, k: usize) -> usize
-    requires { 0 < step }
-    ensures { result ≡ next_text skip.now step k }
-{
-    // every row is filled in: a division would cost more than the walk
-    if step == 1 {
-        if k < skip.len() {
-            return skip[k] as usize;
-        }
-        return k;
-    }
-    let j = k / step;
-    if (k % step == 0) & (j < skip.len()) {
-        return skip[j] as usize;
-    }
-    k
-}
-
-// The place after a text that was written, or there is no room for it.
-#[derive(Clone, Copy)]
-enum Put {
-    Until(usize),
-    Short,
-}
-
 // Writes the inner text of h from `at` on.
-fn put_text(
-    page: &[u8],
-    table: &[u32],
-    skip: &[u32],
-    step: usize,
-    h: usize,
-    out: &mut [u8],
-    at: usize,
-) -> Put
-    requires table_value { (sound (length page.now) table.now ≡ true) × Skips page.now table.now step skip.now }
-    requires h_bound { (h < count_of table.now) × (at ≤ length out.old) }
-    ensures { Puts (inner_text page.now table.now h) out.old at result out.new }
+fn put_text(s: &Skips, h: usize, out: &mut [u8], at: usize) -> Option<usize>
+    requires { (h < count_of s.now.tags.document.table.now) × (at ≤ length out.old) }
+    ensures { let d = s.now.tags.document in
+        Puts (inner_text d.page.now d.table.now h) out.old at result out.new }
 {
-    let n = table::row_at(table, h);
-    let last = n.last as usize;
+    let d = &s.tags.document;
+    let last = d.row(h).last as usize;
     let mut i = at;
-    let mut k = next_text(skip, step, h + 1);
+    let mut k = s.next_text(h + 1);
     while k <= last {
-        let n = table::row_at(table, k);
-        let size = tag::text_size(page, n);
-        if out.len() - i < size {
-            return Put::Short;
+        let text = tag::text_of(d.page, d.row(k));
+        k = s.next_text(k + 1);
+        // to copy no bytes would cost more than this test
+        if text.is_empty() {
+            continue;
         }
-        i = tag::put_text(page, n, out, i);
-        k = next_text(skip, step, k + 1);
+        if out.len() - i < text.len() {
+            return None;
+        }
+        i = tag::copy(text, out, i);
     }
-    Put::Until(i)
+    Some(i)
 }
 
 // Writes the inner texts one after the other, and where each ends.
-fn put_texts(
-    page: &[u8],
-    table: &[u32],
-    skip: &[u32],
-    step: usize,
-    handles: &[u32],
-    ends: &mut [usize],
-    out: &mut [u8],
-) -> Counted
-    requires tags { Tags page.now table.now handles.now × Skips page.now table.now step skip.now }
-    requires handles_in_bounds { length handles.now ≤ length ends.old }
-    ensures { TextsLeft page.now table.now handles.now ends.old out.old
-        false result ends.new out.new }
+fn put_texts(s: &Skips, ends: &mut [usize], out: &mut [u8]) -> Result<usize, Refusal>
+    requires { length s.now.tags.handles.now ≤ length ends.old }
+    ensures { let d = s.now.tags.document in
+        TextsLeft d.page.now d.table.now s.now.tags.handles.now ends.old out.old false result ends.new out.new }
 {
+    let handles = s.tags.handles;
     let mut at = 0;
-    let mut i = 0;
-    while i < handles.len() {
-        let h = handles[i] as usize;
-        let Put::Until(end) = put_text(page, table, skip, step, h, out, at) else {
+    for (i, &h) in handles.iter().enumerate() {
+        let Some(end) = put_text(s, h as usize, out, at) else {
             return refuse_texts(ends, out, Refusal::BufferTooShort);
         };
         ends[i] = end;
         at = end;
-        i += 1;
     }
-    Counted::Count(i)
+    Ok(handles.len())
 }
 
-// The same, with `skip` to be filled first.
+// The same, with a table of skips that is filled first.
 fn skip_texts(
-    page: &[u8],
-    table: &[u32],
-    skip: &mut [u32],
+    tags: &Tags,
+    next: &mut [u32],
     step: usize,
-    handles: &[u32],
     ends: &mut [usize],
     out: &mut [u8],
-) -> Counted
-    requires tags { Tags page.now table.now handles.now × Covers (count_of table.now) step (length skip.old) }
-    requires handles_in_bounds { length handles.now ≤ length ends.old }
-    ensures { TextsLeft page.now table.now handles.now ends.old out.old
-        false result ends.new out.new }
+) -> Result<usize, Refusal>
+    requires covers { Covers (count_of tags.now.document.table.now) step (length next.old) }
+    requires places { length tags.now.handles.now ≤ length ends.old }
+    ensures { let d = tags.now.document in
+        TextsLeft d.page.now d.table.now tags.now.handles.now ends.old out.old false result ends.new out.new }
 {
-    fill_skips(page, table, step, skip);
-    put_texts(page, table, skip, step, handles, ends, out)
+    fill_skips(&tags.document, step, next);
+    let skips = Skips {
+        tags: *tags,
+        next,
+        step,
+    };
+    put_texts(&skips, ends, out)
 }
 
-// Whether the rows below the handles are no more than all rows: each can then be walked through without `skip`. The answer is
-// about speed alone, so nothing is promised of it.
-fn few_below(page: &[u8], table: &[u32], handles: &[u32], count: usize) -> bool
-    requires { Tags page.now table.now handles.now }
-{
+// Whether the rows below the handles are no more than all rows: each can then be walked through without skips. The answer is about
+// speed alone, so nothing is promised of it.
+fn few_below(tags: &Tags, count: usize) -> bool {
+    let d = &tags.document;
     let mut left = count;
-    let mut i = 0;
-    while i < handles.len() {
-        let h = handles[i] as usize;
-        let n = table::row_at(table, h);
-        let last = n.last as usize;
-        let below = last - h;
+    for &h in tags.handles {
+        let row = h as usize;
+        let below = d.row(row).last as usize - row;
         if left < below {
             return false;
         }
         left -= below;
-        i += 1;
     }
     true
 }
 
-// The same, with a `skip` if it is needed: for each row, or for every so many where there are more rows than a page has.
-fn walk_texts(
-    page: &[u8],
-    table: &[u32],
-    handles: &[u32],
-    ends: &mut [usize],
-    out: &mut [u8],
-) -> Counted
-    requires { Tags page.now table.now handles.now × (length handles.now ≤ length ends.old) }
-    ensures { TextsLeft page.now table.now handles.now ends.old out.old
-        false result ends.new out.new }
+// The same, with skips if they are needed: for each row, or for every so many where there are more rows than a page has.
+fn walk_texts(tags: &Tags, ends: &mut [usize], out: &mut [u8]) -> Result<usize, Refusal>
+    requires { length tags.now.handles.now ≤ length ends.old }
+    ensures { let d = tags.now.document in
+        TextsLeft d.page.now d.table.now tags.now.handles.now ends.old out.old false result ends.new out.new }
 {
-    let count = table[0] as usize;
-    if few_below(page, table, handles, count) {
-        return put_texts(page, table, &table[0..0], 1, handles, ends, out);
+    let count = tags.document.count();
+    if few_below(tags, count) {
+        let none = Skips {
+            tags: *tags,
+            next: &tags.handles[..0],
+            step: 1,
+        };
+        return put_texts(&none, ends, out);
     }
     if count <= FEW {
         let mut skip = [0u32; FEW];
-        return skip_texts(page, table, &mut skip[0..count], 1, handles, ends, out);
+        return skip_texts(tags, &mut skip[..count], 1, ends, out);
     }
     let mut skip = [0u32; ROWS];
     let step = (count - 1) / ROWS + 1;
     let filled = (count - 1) / step + 1;
-    skip_texts(page, table, &mut skip[0..filled], step, handles, ends, out)
+    skip_texts(tags, &mut skip[..filled], step, ends, out)
 }
 
 // The inner texts of tags, or refusal 7.
-fn list_texts(
-    page: &[u8],
-    table: &[u32],
-    handles: &[u32],
-    ends: &mut [usize],
-    out: &mut [u8],
-) -> Counted
-    requires { Tags page.now table.now handles.now }
-    ensures { TextsLeft page.now table.now handles.now ends.old out.old
-        (ltb (length ends.old) (length handles.now)) result ends.new out.new }
+fn list_texts(tags: &Tags, ends: &mut [usize], out: &mut [u8]) -> Result<usize, Refusal>
+    ensures { let d = tags.now.document in
+        let hs = tags.now.handles.now in
+        let few = ltb (length ends.old) (length hs) in
+        TextsLeft d.page.now d.table.now hs ends.old out.old few result ends.new out.new }
 {
-    if ends.len() < handles.len() {
+    if ends.len() < tags.handles.len() {
         return refuse_texts(ends, out, Refusal::BufferTooShort);
     }
-    walk_texts(page, table, handles, ends, out)
+    walk_texts(tags, ends, out)
 }
 
 // The inner texts of a list of tags, one after the other, and where each ends.
+#[tactic(auto, unfolding(rules::specs::Batch::batch_answer, rules::specs::Batch::texts_answer, rules::specs::Batch::texts_buffer, rules::specs::Batch::ends_buffer))]
 pub fn inner_texts(
     page: &[u8],
     table: &[u32],
     handles: &[u32],
     ends: &mut [usize],
     out: &mut [u8],
-) -> Counted
+) -> Result<usize, Refusal>
     ensures { let p = page.now in
         let ws = table.now in
         let hs = handles.now in
@@ -497,7 +439,7 @@ pub fn inner_texts(
         FilledBoth (texts_answer p ws hs (length e) (length b)) (ends_buffer p ws hs e b) (texts_buffer p ws hs e b) result ends.new out.new }
 {
     match check_tags(page, table, handles) {
-        Checked::Refused(why) => refuse_texts(ends, out, why),
-        Checked::Fine => list_texts(page, table, handles, ends, out),
+        Err(why) => refuse_texts(ends, out, why),
+        Ok(tags) => list_texts(&tags, ends, out),
     }
 }

@@ -2,18 +2,21 @@
 
 #![tactic(auto)]
 
-ghost use Rattle.std.specs.Prelude.{◌≡◌, true, ◌<◌, length};
+ghost use Rattle.std.specs.Prelude.{◌≡◌, ◌-◌, ◌≤◌, ◌<◌, length, IfOk, Ok};
 ghost use Rattle.rules.specs.Bytes.{is_white};
 ghost use Rattle.rules.specs.Refusals.{Counts, Refuses, asking, asking_tag, held_part};
-ghost use Rattle.rules.specs.Sound.{count_of, sound};
+ghost use Rattle.rules.specs.Lists.{from};
+ghost use Rattle.rules.specs.Sound.{count_of};
 ghost use Rattle.rules.specs.Text.{inner_text};
 ghost use Rattle.rules.specs.Finds.{by_class};
 ghost use Rattle.rules.specs.Lookup.{Inside};
 ghost use Rattle.rules.specs.Answers.{range_answer, text_answer, text_buffer, attribute_answer, attribute_part, id_answer, class_answer, class_buffer, query_answer, query_buffer, query_below_answer, query_below_buffer};
-ghost use Rattle.calls.specs.Calls.{Filled, Selects, InScope, scoped};
+ghost use Rattle.calls.specs.Calls.{Filled, Selects, told, among};
 
-use queryselector::Chain;
-use rules::{Asked, Checked, Counted, Found, Held, Manner, Ranged, Refusal};
+use piece::Chain;
+use rules::{Held, Manner, Refusal};
+use scan::Marks;
+use sound::Document;
 
 // How deep `inner_text` descends by recursion before a flat walk goes on.
 const DEPTH: usize = 64;
@@ -21,61 +24,47 @@ const DEPTH: usize = 64;
 // ---- the checks that come before an answer
 
 // Refusals 1 and 3.
-pub fn check(page: &[u8], table: &[u32]) -> Checked
-    ensures { result ≡ asking Checked.Refused page.now table.now Checked.Fine }
+pub fn check<'a>(page: &'a [u8], table: &'a [u32]) -> Result<Document<'a>, Refusal>
+    ensures answer { told result ≡ asking page.now table.now (Ok tt) }
+    ensures lent { IfOk result (λ d. (d.page.now ≡ page.now) × (d.table.now ≡ table.now)) }
 {
-    let len = page.len();
-    if parser::PAGE_LIMIT < len {
-        return Checked::Refused(Refusal::PageTooLong);
+    if parser::PAGE_LIMIT < page.len() {
+        return Err(Refusal::PageTooLong);
     }
-    if sound::table_sound(table, len) {
-        return Checked::Fine;
-    }
-    Checked::Refused(Refusal::TableNotSound)
+    Document::new(page, table).ok_or(Refusal::TableNotSound)
 }
 
 // Refusals 1, 3 and 4.
-fn check_tag(page: &[u8], table: &[u32], h: usize) -> Checked
-    ensures { result ≡ asking_tag Checked.Refused page.now table.now h Checked.Fine }
+fn check_tag<'a>(page: &'a [u8], table: &'a [u32], h: usize) -> Result<Document<'a>, Refusal>
+    ensures answer { told result ≡ asking_tag page.now table.now h (Ok tt) }
+    ensures lent { IfOk result (λ d. (d.page.now ≡ page.now) × (d.table.now ≡ table.now)) }
 {
-    match check(page, table) {
-        Checked::Refused(why) => Checked::Refused(why),
-        Checked::Fine => {
-            if tag::is_tag(table, page.len(), h) {
-                return Checked::Fine;
-            }
-            Checked::Refused(Refusal::NotATag)
-        }
+    let d = check(page, table)?;
+    if d.is_tag(h) {
+        return Ok(d);
     }
+    Err(Refusal::NotATag)
 }
 
 // ---- the calls
 
 // The handles below a tag.
-pub fn range(page: &[u8], table: &[u32], h: usize) -> Ranged
+#[tactic(auto, unfolding(rules::specs::Answers::range_answer))]
+pub fn range(page: &[u8], table: &[u32], h: usize) -> Result<Option<(usize, usize)>, Refusal>
     ensures { result ≡ range_answer is_white page.now table.now h }
 {
-    match check_tag(page, table, h) {
-        Checked::Refused(why) => Ranged::Refused(why),
-        Checked::Fine => {
-            let n = table::row_at(table, h);
-            tag::range(h, n.last as usize)
-        }
-    }
+    let d = check_tag(page, table, h)?;
+    Ok(tag::range(h, d.row(h).last as usize))
 }
 
 // What a tag holds for an attribute name.
-pub fn attribute(page: &[u8], table: &[u32], h: usize, name: &[u8]) -> Asked
+#[tactic(auto, unfolding(rules::specs::Answers::attribute_answer))]
+pub fn attribute(page: &[u8], table: &[u32], h: usize, name: &[u8]) -> Result<Held, Refusal>
     ensures { result ≡ attribute_answer is_white page.now table.now h name.now }
 {
-    match check_tag(page, table, h) {
-        Checked::Refused(why) => Asked::Refused(why),
-        Checked::Fine => {
-            let n = table::row_at(table, h);
-            let t = scan::mark_table();
-            Asked::Holds(tag::attribute(&t, page, n, name))
-        }
-    }
+    let d = check_tag(page, table, h)?;
+    let t = Marks::new();
+    Ok(tag::attribute(&t, d.page, d.row(h), name))
 }
 
 // The part of the page that is held: empty without a value.
@@ -94,81 +83,84 @@ fn held_part<'a>(page: &'a [u8], held: Held) -> &'a [u8]
 pub fn attribute_value<'a>(page: &'a [u8], table: &[u32], h: usize, name: &[u8]) -> &'a [u8]
     ensures { result.now ≡ attribute_part is_white page.now table.now h name.now }
 {
-    let Asked::Holds(held) = attribute(page, table, h, name) else {
+    let Ok(held) = attribute(page, table, h, name) else {
         return &page[0..0];
     };
     held_part(page, held)
 }
 
 // Writes the inner text of h, or refuses it as 7.
-fn write_text(page: &[u8], table: &[u32], h: usize, out: &mut [u8]) -> Counted
-    requires { (sound (length page.now) table.now ≡ true) × (h < count_of table.now) }
-    ensures { let text = inner_text page.now table.now h in
+fn write_text(d: &Document, h: usize, out: &mut [u8]) -> Result<usize, Refusal>
+    requires { h < count_of d.now.table.now }
+    ensures { let text = inner_text d.now.page.now d.now.table.now h in
         Counts text out.old result out.new }
 {
-    let size = tag::text_length(page, table, h);
+    let size = tag::text_length(d, h);
     if out.len() < size {
-        table::clear_bytes(out);
-        return Counted::Refused(Refusal::BufferTooShort);
+        out.fill(0);
+        return Err(Refusal::BufferTooShort);
     }
-    Counted::Count(tag::inner_text(page, table, h, out, 0, DEPTH))
+    Ok(tag::inner_text(d, h, out, 0, DEPTH))
 }
 
 // The text below a tag: the bytes of its text nodes, joined.
-pub fn inner_text(page: &[u8], table: &[u32], h: usize, out: &mut [u8]) -> Counted
+#[tactic(auto, unfolding(rules::specs::Answers::text_answer, rules::specs::Answers::text_buffer))]
+pub fn inner_text(page: &[u8], table: &[u32], h: usize, out: &mut [u8]) -> Result<usize, Refusal>
     ensures { let p = page.now in
         let ws = table.now in
         let b = out.old in
         Filled (text_answer is_white p ws h (length b)) (text_buffer is_white p ws h b) result out.new }
 {
     match check_tag(page, table, h) {
-        Checked::Refused(why) => {
-            table::clear_bytes(out);
-            Counted::Refused(why)
+        Err(why) => {
+            out.fill(0);
+            Err(why)
         }
-        Checked::Fine => write_text(page, table, h, out),
+        Ok(d) => write_text(&d, h, out),
     }
 }
 
 // ---- lookups by id and class
 
 // The tag with an id: in a scan the lowest handle, else the one closed last.
-pub fn get_element_by_id(page: &[u8], table: &[u32], manner: Manner, id: &[u8]) -> Found
+#[tactic(auto, unfolding(rules::specs::Answers::id_answer))]
+pub fn get_element_by_id(
+    page: &[u8],
+    table: &[u32],
+    manner: Manner,
+    id: &[u8],
+) -> Result<Option<usize>, Refusal>
     ensures { result ≡ id_answer is_white page.now table.now manner id.now }
 {
-    match check(page, table) {
-        Checked::Refused(why) => Found::Refused(why),
-        Checked::Fine => {
-            let t = scan::mark_table();
-            match manner {
-                Manner::Scan => vdom::id_scan(&t, page, table, id),
-                Manner::Closed => closing::id_closed(&t, page, table, id),
-            }
-        }
+    let d = check(page, table)?;
+    let t = Marks::new();
+    match manner {
+        Manner::Scan => Ok(vdom::id_scan(&t, &d, id)),
+        Manner::Closed => Ok(closing::id_closed(&t, &d, id)),
     }
 }
 
-// The tags with a class, of a sound table.
-fn list_class(page: &[u8], table: &[u32], manner: Manner, class: &[u8], out: &mut [u32]) -> Counted
-    requires { sound (length page.now) table.now ≡ true }
-    ensures { let found = by_class is_white page.now table.now manner class.now in
+// The tags with a class, of a document.
+fn list_class(d: &Document, manner: Manner, class: &[u8], out: &mut [u32]) -> Result<usize, Refusal>
+    ensures { let found = by_class is_white d.now.page.now d.now.table.now manner class.now in
         Counts found out.old result out.new }
 {
-    let t = scan::mark_table();
+    let t = Marks::new();
     match manner {
-        Manner::Scan => vdom::class_scan(&t, page, table, class, out),
-        Manner::Closed => closing::class_closed(&t, page, table, class, out),
+        Manner::Scan => vdom::class_scan(&t, d, class, out),
+        Manner::Closed => closing::class_closed(&t, d, class, out),
     }
 }
 
 // The tags with a class: in a scan each once in handle order, else in closing order, once for each time.
+#[tactic(auto, unfolding(rules::specs::Answers::class_answer, rules::specs::Answers::class_buffer))]
 pub fn get_elements_by_class_name(
     page: &[u8],
     table: &[u32],
     manner: Manner,
     class: &[u8],
     out: &mut [u32],
-) -> Counted
+) -> Result<usize, Refusal>
     ensures { let p = page.now in
         let ws = table.now in
         let b = out.old in
@@ -176,69 +168,63 @@ pub fn get_elements_by_class_name(
         Filled (class_answer is_white p ws manner k (length b)) (class_buffer is_white p ws manner k b) result out.new }
 {
     match check(page, table) {
-        Checked::Refused(why) => refuse(out, why),
-        Checked::Fine => list_class(page, table, manner, class, out),
+        Err(why) => table::refuse(out, why),
+        Ok(d) => list_class(&d, manner, class, out),
     }
 }
 
 // ---- queries
 
-// Where a query looks: over the page, or below a tag.
-#[derive(Clone, Copy)]
-enum Scope {
-    Page,
-    Below(usize),
-}
-
-// A refusal leaves the words all zero.
-pub fn refuse(out: &mut [u32], why: Refusal) -> Counted
-    ensures { Refuses out.old why result out.new }
-{
-    table::clear(out);
-    Counted::Refused(why)
-}
-
-// The finds of a selector, or refusals 5, 6 and 7.
-fn select(page: &[u8], table: &[u32], scope: Scope, s: &[u8], out: &mut [u32]) -> Counted
-    requires { (sound (length page.now) table.now ≡ true) × InScope table.now scope }
-    ensures { let finds = scoped page.now table.now s.now scope in
+// The finds of a selector among the handles from lo up to end, or refusals 5, 6 and 7.
+fn select(d: &Document, lo: usize, end: usize, s: &[u8], out: &mut [u32]) -> Result<usize, Refusal>
+    requires { (lo ≤ end) × (end ≤ count_of d.now.table.now) }
+    ensures { let finds = among d.now.page.now d.now.table.now s.now (from lo (end - lo)) in
         Selects finds s.now out.old result out.new }
 {
     if queryselector::LIMIT < s.len() {
-        return refuse(out, Refusal::SelectorTooLong);
+        return table::refuse(out, Refusal::SelectorTooLong);
     }
-    let t = scan::mark_table();
+    let t = Marks::new();
     let mut words = [0u32; queryselector::ROOM];
-    let Chain::Pieces(n) = queryselector::parse_selector(&t, s, &mut words) else {
-        return refuse(out, Refusal::SelectorNotRead);
+    let Some(pieces) = queryselector::parse_selector(&t, s, &mut words) else {
+        return table::refuse(out, Refusal::SelectorNotRead);
     };
-    match scope {
-        Scope::Page => vdom::query(&t, page, table, s, &words, n, out),
-        Scope::Below(h) => vdom::query_below(&t, page, table, h, s, &words, n, out),
-    }
+    let chain = Chain {
+        text: s,
+        words: &words,
+        pieces,
+    };
+    vdom::query(&t, d, lo, end, &chain, out)
 }
 
 // The nodes of the page that a selector finds, in handle order.
-pub fn query_selector(page: &[u8], table: &[u32], s: &[u8], out: &mut [u32]) -> Counted
+#[tactic(auto, unfolding(rules::specs::Answers::query_answer, rules::specs::Answers::query_buffer))]
+pub fn query_selector(
+    page: &[u8],
+    table: &[u32],
+    s: &[u8],
+    out: &mut [u32],
+) -> Result<usize, Refusal>
     ensures { let p = page.now in
         let ws = table.now in
         let b = out.old in
         Filled (query_answer is_white p ws s.now (length b)) (query_buffer is_white p ws s.now b) result out.new }
 {
     match check(page, table) {
-        Checked::Refused(why) => refuse(out, why),
-        Checked::Fine => select(page, table, Scope::Page, s, out),
+        Err(why) => table::refuse(out, why),
+        Ok(d) => select(&d, 0, d.count(), s, out),
     }
 }
 
 // The nodes below a tag that a selector finds, in handle order.
+#[tactic(auto, unfolding(rules::specs::Answers::query_below_answer, rules::specs::Answers::query_below_buffer))]
 pub fn query_selector_below(
     page: &[u8],
     table: &[u32],
     h: usize,
     s: &[u8],
     out: &mut [u32],
-) -> Counted
+) -> Result<usize, Refusal>
     ensures { let p = page.now in
         let ws = table.now in
         let b = out.old in
@@ -246,7 +232,10 @@ pub fn query_selector_below(
         Filled (query_below_answer is_white p ws h k (length b)) (query_below_buffer is_white p ws h k b) result out.new }
 {
     match check_tag(page, table, h) {
-        Checked::Refused(why) => refuse(out, why),
-        Checked::Fine => select(page, table, Scope::Below(h), s, out),
+        Err(why) => table::refuse(out, why),
+        Ok(d) => {
+            let last = d.row(h).last as usize;
+            select(&d, h + 1, last + 1, s, out)
+        }
     }
 }

@@ -1,5 +1,3 @@
-pub mod Rows
-pub mod Cuts
 pub mod Steps
 pub mod Entries
 pub mod Turns

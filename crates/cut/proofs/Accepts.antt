@@ -1,5 +1,7 @@
 -- A page and the table that its accepted reading left: the table's tags, parents and last handles are the reading's, and no
 -- question to it is refused as 1 or 3, nor as 4 where it is about a tag.
+use Rattle.std.proofs.Common.{Result}
+use Rattle.std.proofs.Common.{Ok}
 use Prim.Native.Nat.{ℕ, ◌≤◌, ◌<◌}
 use native.Mathlib.Omega.{arith}
 use mathlib.Core.Bool.{Bool}
@@ -18,8 +20,6 @@ use Rattle.rules.specs.Text.{inner_text}
 use Rattle.rules.specs.Query.{over_page, below_tag}
 use Rattle.rules.specs.Refusals.{asking, asking_tag, counted}
 use Rattle.rules.specs.Answers.{selected, text_answer, attribute_answer, query_answer, query_below_answer}
-use Rattle.rules.specs.declared.Asked.TheVariants.{Holds, Refused as Unasked}
-use Rattle.rules.specs.declared.Counted.TheVariants.{Refused}
 use Rattle.laws.proofs.Nodes.{kind_in}
 use Rattle.laws.proofs.Nested.{Under, child, deeper}
 use Rattle.laws.proofs.Tree.{parents, page_nested, descendants}
@@ -39,27 +39,27 @@ module _ {white : ℕ → Bool} {void : List ℕ → Bool} {p ws : List ℕ} (A 
   node_tag h k = let l : h < length ns = kind_in ns h k in (omega (arith, A.counted), ap (λ (n : Node). n.kind) (A.row h l) ∙ k)
 
   -- refusals 1, 3 and 4 do not come
-  asked : {B : Type 0} (refused : Refusal → B) (b : B) → asking refused p ws b ≡ b
-  asked refused b = rw (A.short, A.sound_table)
+  asked : {B : Type 0} (b : Result B Refusal) → asking p ws b ≡ b
+  asked b = rw (A.short, A.sound_table)
 
-  asked_tag : {B : Type 0} (refused : Refusal → B) (h : ℕ) (b : B) → IsTag ws h → asking_tag refused p ws h b ≡ b
-  asked_tag refused h b t = rw (A.short, A.sound_table, lt-ltb h (count_of ws) t.0, eq-eqb (node_at ws h).kind 1 t.1)
+  asked_tag : {B : Type 0} (h : ℕ) (b : Result B Refusal) → IsTag ws h → asking_tag p ws h b ≡ b
+  asked_tag h b t = rw (A.short, A.sound_table, lt-ltb h (count_of ws) t.0, eq-eqb (node_at ws h).kind 1 t.1)
 
-  pub attribute_is : (h : ℕ) (k : List ℕ) → IsTag ws h → attribute_answer white p ws h k ≡ Holds (lookup white p (node_at ws h) k)
+  pub attribute_is : (h : ℕ) (k : List ℕ) → IsTag ws h → attribute_answer white p ws h k ≡ Ok (lookup white p (node_at ws h) k)
   unfolding attribute_answer
-  attribute_is h k t = asked_tag Unasked h (Holds (lookup white p (node_at ws h) k)) t
+  attribute_is h k t = asked_tag h (Ok (lookup white p (node_at ws h) k)) t
 
   pub text_is : (h m : ℕ) → IsTag ws h → text_answer white p ws h m ≡ counted m (length (inner_text p ws h))
   unfolding text_answer
-  text_is h m t = asked_tag Refused h (counted m (length (inner_text p ws h))) t
+  text_is h m t = asked_tag h (counted m (length (inner_text p ws h))) t
 
   pub query_is : (s : List ℕ) (m : ℕ) → query_answer white p ws s m ≡ selected (over_page white p ws s) s m
   unfolding query_answer
-  query_is s m = asked Refused (selected (over_page white p ws s) s m)
+  query_is s m = asked (selected (over_page white p ws s) s m)
 
   pub below_is : (h : ℕ) (s : List ℕ) (m : ℕ) → IsTag ws h → query_below_answer white p ws h s m ≡ selected (below_tag white p ws s h) s m
   unfolding query_below_answer
-  below_is h s m t = asked_tag Refused h (selected (below_tag white p ws s h) s m) t
+  below_is h s m t = asked_tag h (selected (below_tag white p ws s h) s m) t
 
   -- the table's parents and last handles are the reading's
   to_under : {h d : ℕ} → Descends ws h d → (d < count_of ws) × Under (parents ns) h d

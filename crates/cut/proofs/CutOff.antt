@@ -1,5 +1,6 @@
--- Demand 3. The two tables hold the nodes of the two readings, and these agree on the beginning's tags (`Agree` of the laws).
+-- A page cut off. The two tables hold the nodes of the two readings, and these agree on the beginning's tags (`Agree` of the laws).
 -- All that the public calls ask of a tag, its name, its attributes and what it reaches, is therefore the same in both.
+use Rattle.std.proofs.Common.{Ok}
 use Prim.Native.Nat.{ℕ, suc, ◌-◌, ◌≤◌, ◌<◌}
 use native.Mathlib.Omega.{arith}
 use mathlib.Core.Bool.{Bool, true}
@@ -14,7 +15,6 @@ use Rattle.rules.specs.declared.Piece.{Piece}
 use Rattle.rules.specs.declared.Simple.{Simple}
 use Rattle.rules.specs.declared.Held.{Held}
 use Rattle.rules.specs.declared.Held.TheVariants.{Absent, Bare, Value}
-use Rattle.rules.specs.declared.Asked.TheVariants.{Holds}
 use Rattle.rules.specs.Reader.{node, read}
 use Rattle.rules.specs.Table.{node_at}
 use Rattle.rules.specs.Sound.{count_of, last_at, tagged, is_tag}
@@ -28,7 +28,7 @@ use Rattle.laws.proofs.Nodes.{kind_in}
 use Rattle.laws.proofs.Tree.{reach_same}
 use Rattle.laws.proofs.Lockstep.{Agree, agree}
 use Rattle.laws.proofs.Tables.{Accepted, accepted}
-use Rattle.cut.specs.Cut.{IsTag, Enough, Alike, CutOff, Demand3}
+use Rattle.cut.specs.Cut.{IsTag, Enough, Alike, CutOff, CutTheorem}
 use Rattle.cut.proofs.Finds.{same_finds, and_parts}
 use Rattle.cut.proofs.Selected.{selected_alike}
 use Rattle.cut.proofs.Accepts.{tag_node_lem, node_tag, attribute_is, query_is, below_is, last_is, descends}
@@ -103,7 +103,7 @@ module _ (white : ℕ → Bool) (void : List ℕ → Bool) (p : List ℕ) (n : �
       same_answer k = rw (row, whole_row, G.opening h is_one, (G.kept h is_one).stop)
 
       same_attribute : (k : List ℕ) → attribute_answer white q ws h k ≡ attribute_answer white p vs h k
-      same_attribute k = attribute_is A h k t ∙ (ap Holds (same_lookup k) ∙ sym (attribute_is B h k (in_whole h t).0))
+      same_attribute k = attribute_is A h k t ∙ (ap Ok (same_lookup k) ∙ sym (attribute_is B h k (in_whole h t).0))
 
       -- a value lies before word 5, so before the cut
       same_part : (v : Held) → Inside n v → held_part q v ≡ held_part p v
@@ -186,6 +186,6 @@ module _ (white : ℕ → Bool) (void : List ℕ → Bool) (p : List ℕ) (n : �
           descendants_whole = descends B;
         }
 
--- Demand 3
-pub cut_off : Demand3
+-- the theorem
+pub cut_off : CutTheorem
 cut_off white void p n hn t u k m e f = all_clauses white void p n hn (accepted white void (take n p) t k e) (accepted white void p u m f)

@@ -1,4 +1,5 @@
 -- U14. The two tables hold the nodes of the two readings, so the inner texts by the tables are those by the nodes.
+use Rattle.std.proofs.Common.{Result, Ok}
 use Prim.Native.Nat.{ℕ, suc, ◌-◌, ◌≤◌, ◌<◌}
 use native.Mathlib.Omega.{arith}
 use mathlib.Core.Bool.{Bool}
@@ -15,8 +16,6 @@ use Rattle.rules.specs.Sound.{last_at}
 use Rattle.rules.specs.Text.{text_at, inner_text}
 use Rattle.rules.specs.Refusals.{filled_by}
 use Rattle.rules.specs.Answers.{text_answer, text_buffer}
-use Rattle.rules.specs.declared.Counted.{Counted}
-use Rattle.rules.specs.declared.Counted.TheVariants.{Count}
 use Rattle.rules.proofs.All.{all_from, each_same}
 use Rattle.laws.proofs.Tree.{page_nested}
 use Rattle.laws.proofs.Tables.{Accepted, accepted}
@@ -26,6 +25,7 @@ use Rattle.cut.proofs.Selected.{fits_found}
 use Rattle.cut.proofs.Accepts.{tag_node_lem, text_is, last_is, descends}
 use Rattle.cut.proofs.TextNodes.{node_text, nodes_text, text_prefix, text_same}
 use Rattle.cut.proofs.CutOff.{cut_off}
+use Rattle.rules.specs.declared.Refusal.{Refusal}
 
 module _ {white : ℕ → Bool} {void : List ℕ → Bool} {p ws : List ℕ} (A : Accepted white void p ws) (h : ℕ) (t : IsTag ws h) where
   abbrev ns : List Node
@@ -49,8 +49,8 @@ module _ {white : ℕ → Bool} {void : List ℕ → Bool} {p ws : List ℕ} (A 
   gives_text out e =
       let x : List ℕ = inner_text p ws h in
       let a = text_is A h (length out) t in
-      let c : text_answer white p ws h (length out) ≡ Count (length x) = a ∙ fits_found (ltb (length out) (length x)) x (rw a at e) in
-      record { answer = c; text = ap (λ (r : Counted). found r (filled_by out x r)) c ∙ take-append_seam x (drop (length x) out) }
+      let c : text_answer white p ws h (length out) ≡ Ok (length x) = a ∙ fits_found (ltb (length out) (length x)) x (rw a at e) in
+      record { answer = c; text = ap (λ (r : Result ℕ Refusal). found r (filled_by out x r)) c ∙ take-append_seam x (drop (length x) out) }
 
   -- the last descendant is the one that word 7 names
   last_end : (d : ℕ) → LastBelow ws h d → (node_at ws d).end ≡ (node ns (node ns h).last).end

@@ -1,5 +1,5 @@
--- "A page cut off" (document 01): what the public calls answer for a page's first n bytes, and for the whole page.
-use Rattle.std.specs.Prelude.{ℕ, suc, ◌≤◌, ◌<◌, Bool, ◌↔◌, ◌≡◌, List, [], length, take}
+-- A page cut off: what the public calls answer for a page's first n bytes, and for the whole page.
+use Rattle.std.specs.Prelude.{ℕ, suc, ◌≤◌, ◌<◌, Bool, ◌↔◌, ◌≡◌, List, [], length, take, Result, Ok, Err}
 use Rattle.rules.specs.Lists.{only}
 use Rattle.rules.specs.Table.{node_at}
 use Rattle.rules.specs.Sound.{count_of, last_at, is_tag}
@@ -7,8 +7,6 @@ use Rattle.rules.specs.Query.{name_of}
 use Rattle.rules.specs.Answers.{parse_answer, parse_table, attribute_answer, attribute_part, query_answer, query_buffer, query_below_answer, query_below_buffer}
 use Rattle.rules.specs.declared.Refusal.{Refusal}
 use Rattle.rules.specs.declared.Refusal.TheVariants.{BufferTooShort}
-use Rattle.rules.specs.declared.Counted.{Counted}
-use Rattle.rules.specs.declared.Counted.TheVariants.{Count, Refused}
 
 -- ---- the words of the statement
 
@@ -22,17 +20,17 @@ pub data Descends (ws : List ℕ) (h : ℕ) : ℕ → Type 0 where
   deeper : {d m : ℕ} → d < count_of ws → (node_at ws d).parent ≡ suc m → Descends ws h m → Descends ws h d
 
 -- the lent words had room for all finds
-abbrev pub Enough : Counted → Type 0
-Enough a = a ≡ Refused BufferTooShort → ⊥
+abbrev pub Enough : Result ℕ Refusal → Type 0
+Enough a = a ≡ Err BufferTooShort → ⊥
 
 -- the handles that a query found, by its answer and the words lent to it, as it left them
-abbrev pub found : Counted → List ℕ → List ℕ
-found (Count n) out = take n out
-found (Refused x) out = []
+abbrev pub found : Result ℕ Refusal → List ℕ → List ℕ
+found (Ok n) out = take n out
+found (Err x) out = []
 
 -- Two answers of a query: refused alike, or with the same finds among the tags of the table ws.
-pub record Alike (ws : List ℕ) (a : Counted) (out : List ℕ) (b : Counted) (out' : List ℕ) : Type 0 where
-  pub refused : (x : Refusal) → (a ≡ Refused x) ↔ (b ≡ Refused x)
+pub record Alike (ws : List ℕ) (a : Result ℕ Refusal) (out : List ℕ) (b : Result ℕ Refusal) (out' : List ℕ) : Type 0 where
+  pub refused : (x : Refusal) → (a ≡ Err x) ↔ (b ≡ Err x)
   pub finds : only (is_tag ws) (found a out) ≡ only (is_tag ws) (found b out')
 
 -- ---- the statement
@@ -61,9 +59,9 @@ pub record CutOff (white : ℕ → Bool) (n : ℕ) (q ws p vs : List ℕ) : Type
   pub descendants : (h : ℕ) → IsTag ws h → (d : ℕ) → Descends ws h d ↔ ((h < d) × (d ≤ last_at ws h))
   pub descendants_whole : (h : ℕ) → IsTag vs h → (d : ℕ) → Descends vs h d ↔ ((h < d) × (d ≤ last_at vs h))
 
--- Demand 3: for every page of bytes, every cut, every white and void test and any two tables on which both readings are accepted.
-abbrev pub Demand3 : Type 0
-Demand3 =
+-- The theorem: for every page of bytes, every cut, every white and void test and any two tables on which both readings are accepted.
+abbrev pub CutTheorem : Type 0
+CutTheorem =
     (white : ℕ → Bool) (void : List ℕ → Bool) (p : List ℕ) (n : ℕ) → n ≤ length p
-    → (t u : List ℕ) (k m : ℕ) → parse_answer white void (take n p) (length t) ≡ Count k → parse_answer white void p (length u) ≡ Count m
+    → (t u : List ℕ) (k m : ℕ) → parse_answer white void (take n p) (length t) ≡ Ok k → parse_answer white void p (length u) ≡ Ok m
     → CutOff white n (take n p) (parse_table white void (take n p) t) p (parse_table white void p u)

@@ -1,9 +1,8 @@
--- "Text of a broken-off cell" (document 02, U14): a tag's inner text in a page's first n bytes, and in the whole page.
-use Rattle.std.specs.Prelude.{ℕ, ◌≤◌, Bool, ◌≡◌, List, ◌++◌, length, take}
+-- The text of a cell that broke off: a tag's inner text in a page's first n bytes, and in the whole page.
+use Rattle.std.specs.Prelude.{ℕ, ◌≤◌, Bool, ◌≡◌, List, ◌++◌, length, take, Ok}
 use Rattle.rules.specs.Table.{node_at}
 use Rattle.rules.specs.Text.{inner_text}
 use Rattle.rules.specs.Answers.{parse_answer, parse_table, text_answer, text_buffer}
-use Rattle.rules.specs.declared.Counted.TheVariants.{Count}
 use Rattle.cut.specs.Cut.{IsTag, Descends, Enough, found}
 
 -- ---- the words of the statement
@@ -30,7 +29,7 @@ module _ (white : ℕ → Bool) (p ws : List ℕ) (h : ℕ) (out : List ℕ) whe
 
   -- it was not refused, and gave the inner text by its table
   pub record Gives : Type 0 where
-    pub answer : text_answer white p ws h (length out) ≡ Count (length (inner_text p ws h))
+    pub answer : text_answer white p ws h (length out) ≡ Ok (length (inner_text p ws h))
     pub text : given ≡ inner_text p ws h
 
 -- ---- the statement
@@ -51,7 +50,7 @@ pub record TextCut (white : ℕ → Bool) (n : ℕ) (q ws p vs : List ℕ) (h : 
 abbrev pub TextPrefix : Type 0
 TextPrefix =
     (white : ℕ → Bool) (void : List ℕ → Bool) (p : List ℕ) (n : ℕ) → n ≤ length p
-    → (t u : List ℕ) (k m : ℕ) → parse_answer white void (take n p) (length t) ≡ Count k → parse_answer white void p (length u) ≡ Count m
+    → (t u : List ℕ) (k m : ℕ) → parse_answer white void (take n p) (length t) ≡ Ok k → parse_answer white void p (length u) ≡ Ok m
     → (h : ℕ) → IsTag (parse_table white void (take n p) t) h
     → (out out' : List ℕ) → Room white (take n p) (parse_table white void (take n p) t) h out
     → Room white p (parse_table white void p u) h out'

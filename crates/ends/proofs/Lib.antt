@@ -2,5 +2,4 @@ pub mod Rows
 pub mod Columns
 pub mod Counting
 pub mod Placing
-pub mod Steps
 pub mod Whole

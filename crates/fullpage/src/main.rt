@@ -8,50 +8,30 @@ ghost use Rattle.rules.specs.Refusals.{page_limit};
 ghost use Rattle.rules.specs.Buffers.{Wrote};
 ghost use Rattle.fullpage.specs.Asked.{ending, asked, answer_text};
 
-use decimal::Number;
 use std::io;
 use std::io::Print;
 
 // The longest page.
 const LIMIT: u32 = 65536;
 
-// How many bytes of a page are asked for.
-#[derive(Clone, Copy)]
-enum Length {
-    Of(usize),
-    Refused,
-}
-
 // The input ends at the place, or after a line feed there.
 fn ends(s: &[u8], at: usize) -> bool
     ensures { result ≡ ending s.now at }
 {
-    if at == s.len() {
-        return true;
-    }
-    if at < s.len() {
-        return (s[at] == b'\n') & (at + 1 == s.len());
-    }
-    false
+    matches!(s.get(at..), Some([] | [b'\n']))
 }
 
-// What the input asks for.
-fn asked(s: &[u8]) -> Length
+// How many bytes of a page the input asks for.
+#[tactic(auto, unfolding(crate::specs::Asked::asked))]
+fn asked(s: &[u8]) -> Option<usize>
     ensures { result ≡ asked s.now }
 {
-    let Number::Read(n, end) = decimal::number_at(s, 0) else {
-        return Length::Refused;
-    };
-    if 5 < end {
-        return Length::Refused;
+    let (n, end) = decimal::number_at(s, 0)?;
+    if end <= 5 && n <= LIMIT && ends(s, end) {
+        Some(n as usize)
+    } else {
+        None
     }
-    if LIMIT < n {
-        return Length::Refused;
-    }
-    if ends(s, end) {
-        return Length::Of(n as usize);
-    }
-    Length::Refused
 }
 
 // Writes what the input asks for, and answers how many bytes that are.
@@ -59,10 +39,12 @@ fn answer(s: &[u8], out: &mut [u8]) -> usize
     requires { page_limit ≤ length out.old }
     ensures { Wrote out.old 0 (answer_text (asked s.now)) out.new result }
 {
-    let Length::Of(n) = asked(s) else {
-        return lines::put(out, 0, b"refused");
+    let Some(n) = asked(s) else {
+        let text = b"refused";
+        out[..text.len()].copy_from_slice(text);
+        return text.len();
     };
-    maxnodes::fill(&mut out[0..n]);
+    maxnodes::fill(&mut out[..n]);
     n
 }
 

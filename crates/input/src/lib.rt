@@ -9,7 +9,8 @@ use std::io;
 use std::io::Read;
 
 // Reads until the buffer is full or the input ends, and answers how many bytes were read: the next of the input, all of them where
-// they are fewer than the buffer has room for.
+// they are fewer than the buffer has room for. The loop stands here because std has no such method: `read_exact` fails at the end
+// of the input, and `read_to_end` needs a heap.
 pub fn read_full<R: Read>(input: &mut R, out: &mut [u8]) -> io::Result<usize>
     ensures count { IfOk result (λ n. n ≤ length out.new) }
     ensures bytes { IfOk result (λ n. Consumes (R.remaining input.old) (R.remaining input.new) (take n out.new)) }

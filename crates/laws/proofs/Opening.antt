@@ -1,5 +1,6 @@
 -- What a tag's opening holds: the attributes from a place on stand at that place or after it, with their names and values. So a
 -- name that does not lie within what follows a place is no attribute's from there on.
+use Rattle.std.proofs.Common.{Option, Some, None}
 use mathlib.Core.Path.{◌≡◌, refl}
 use mathlib.Core.Bool.{Bool, true, false}
 use mathlib.Core.List.{List, [], ◌∷◌}
@@ -14,8 +15,6 @@ use Rattle.rules.specs.Words.{Within}
 use Rattle.rules.specs.declared.Attribute.{Attribute}
 use Rattle.rules.specs.declared.Held.{Held}
 use Rattle.rules.specs.declared.Held.TheVariants.{Absent, Bare, Value}
-use Rattle.rules.specs.declared.Value.{Value as Assigned}
-use Rattle.rules.specs.declared.Value.TheVariants.{Missing, Given}
 use Rattle.rules.proofs.Pick.{cases}
 use Rattle.rules.proofs.Runs.{skip_ge, skip_le}
 use Rattle.rules.proofs.Lookup.{Each, lookup_each}
@@ -23,18 +22,18 @@ use Rattle.rules.proofs.Within.{same_within, within_part}
 use Rattle.laws.proofs.Cut.{next_scans}
 
 -- a value starts at the place lo or after it: one that is given, and one that is held
-abbrev FromAssigned : ℕ → Assigned → Type 0
-FromAssigned lo Missing = Unit {0}
-FromAssigned lo (Given a e) = lo ≤ a
+abbrev FromAssigned : ℕ → Option (ℕ × ℕ) → Type 0
+FromAssigned lo None = Unit {0}
+FromAssigned lo (Some (a, e)) = lo ≤ a
 
 abbrev pub From : ℕ → Held → Type 0
 From lo Absent = Unit {0}
 From lo Bare = Unit {0}
 From lo (Value a e) = lo ≤ a
 
-held_from : (lo : ℕ) (r : Held) (v : Assigned) → From lo r → FromAssigned lo v → From lo (held_as r v)
-held_from lo r Missing i j = i
-held_from lo r (Given a e) i j = j
+held_from : (lo : ℕ) (r : Held) (v : Option (ℕ × ℕ)) → From lo r → FromAssigned lo v → From lo (held_as r v)
+held_from lo r None i j = i
+held_from lo r (Some (a, e)) i j = j
 
 module _ (white : ℕ → Bool) (p : List ℕ) (lo : ℕ) where
   -- what holds of an attribute wherever it stands from lo on

@@ -1,4 +1,4 @@
--- The nodes of every page are sound, as document 01 asks of a table.
+-- The nodes of every page are sound, as is asked of a table.
 use Prim.Native.Nat.{ℕ, zero, suc, ◌≤◌, ◌<◌, pred}
 use native.Mathlib.Omega.{arith}
 use mathlib.Core.Bool.{Bool, true, false, ◌||◌}

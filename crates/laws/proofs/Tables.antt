@@ -1,4 +1,5 @@
 -- The table that a reading leaves is sound, as the test of a table's words says it.
+use Rattle.std.proofs.Common.{Result, Ok, Err}
 use mathlib.Core.Path.{◌≡◌, refl, sym, ap, ◌∙◌}
 use mathlib.Core.Bool.{Bool, true, false, ◌||◌}
 use mathlib.Core.List.{List, [], ◌∷◌}
@@ -17,14 +18,13 @@ use Rattle.rules.specs.Refusals.{page_too_long}
 use Rattle.rules.specs.Answers.{parse_answer, parsed_table, parse_table}
 use Rattle.rules.specs.declared.Item.{Item}
 use Rattle.rules.specs.declared.Refusal.TheVariants.{PageTooLong, TableTooSmall}
-use Rattle.rules.specs.declared.Counted.{Counted}
-use Rattle.rules.specs.declared.Counted.TheVariants.{Count, Refused}
 use Rattle.rules.specs.declared.Item.TheVariants.{Text, Close, Comment, Doctype, Tag, Nothing}
 use Rattle.rules.specs.declared.Node.{Node}
 use Rattle.rules.proofs.Table.{filled_size, filled_node}
 use Rattle.rules.proofs.Sound.{reaching_pass, reaching_here, all_from, row_sound_from, sound_is}
 use Rattle.rules.proofs.Pick.{cases}
 use Rattle.laws.proofs.Soundness.{Sound, page_sound}
+use Rattle.rules.specs.declared.Refusal.{Refusal}
 
 -- the greatest handle below k that reaches h, where it is known: q - 1, or none
 found : (last : ℕ → ℕ) (h k q : ℕ) → q ≤ k → ((g : ℕ) → q ≤ g → g < k → last g < h) → ((g : ℕ) → q ≡ suc g → h ≤ last g) → reaching last h k ≡ q
@@ -128,8 +128,8 @@ module _ (white : ℕ → Bool) (void : List ℕ → Bool) (p : List ℕ) where
   page_table_sound F = sound_filled (length p) page.version (page_sound white void p) F (steps_known white void p (length p) begin refl)
 
   -- the answer, by the tests of refusals 1 and 2
-  abbrev parsed : Bool → Bool → Counted
-  parsed a b = pick a (Refused PageTooLong) (pick b (Refused TableTooSmall) (Count count))
+  abbrev parsed : Bool → Bool → Result ℕ Refusal
+  parsed a b = pick a (Err PageTooLong) (pick b (Err TableTooSmall) (Ok count))
 
   -- what an accepted reading leaves: a sound table, whose rows are the page's nodes
   pub record Accepted (ws : List ℕ) : Type 0 where
@@ -147,16 +147,16 @@ module _ (white : ℕ → Bool) (void : List ℕ → Bool) (p : List ℕ) where
         row = λ h l. filled_node F h no_node l;
       }
 
-  pub accepted : (t : List ℕ) (n : ℕ) → parse_answer white void p (length t) ≡ Count n → Accepted (parse_table white void p t)
+  pub accepted : (t : List ℕ) (n : ℕ) → parse_answer white void p (length t) ≡ Ok n → Accepted (parse_table white void p t)
   unfolding parse_answer parse_table
   accepted t n = go (page_too_long p) refl (ltb (length t) (row_at count)) refl
     where
-      go : (a : Bool) → page_too_long p ≡ a → (b : Bool) → ltb (length t) (row_at count) ≡ b → parsed a b ≡ Count n
+      go : (a : Bool) → page_too_long p ≡ a → (b : Bool) → ltb (length t) (row_at count) ≡ b → parsed a b ≡ Ok n
           → Accepted (parsed_table white void p t (parsed a b))
       go true o b q e = let z : ◌≡◌ {A = ℕ} 0 1 = cc in absurd (omega arith)
       go false o true q e = let z : ◌≡◌ {A = ℕ} 0 1 = cc in absurd (omega arith)
       go false o false q e = from_filled o {t = t} (record { words = refl; head = refl; fits = ltb-false (length t) (row_at count) q })
 
   -- an accepted page leaves a sound table
-  pub parsed_sound : (t : List ℕ) (n : ℕ) → parse_answer white void p (length t) ≡ Count n → sound (length p) (parse_table white void p t) ≡ true
+  pub parsed_sound : (t : List ℕ) (n : ℕ) → parse_answer white void p (length t) ≡ Ok n → sound (length p) (parse_table white void p t) ≡ true
   parsed_sound t n e = (accepted t n e).sound_table

@@ -4,63 +4,54 @@
 
 ghost use Rattle.std.specs.Prelude.{◌≡◌, ◌≤◌, ◌<◌, length};
 ghost use Rattle.rules.specs.Bytes.{is_ident};
-ghost use Rattle.rules.specs.Scan.{skip, pass};
-ghost use Rattle.rules.specs.Attributes.{onward as onward_at, value_of, attribute_at, attributes_end};
+ghost use Rattle.rules.specs.Scan.{skip, here, pass};
+ghost use Rattle.rules.specs.Attributes.{onward as onward_at, not_closing, value_of, attribute_at, attributes_end};
 ghost use Rattle.rules.specs.Lexer.{comment_end, comment_to, declaration_from, bang, tag, tag_to, closing, markup, item_at};
-ghost use Rattle.scan.specs.Marks.{Marked, white_in};
+ghost use Rattle.scan.specs.Marks.{white_in};
 
-use rules::{Attribute, Current, Expected, Item, Value};
+use rules::{Attribute, Item};
+use scan::Marks;
 
 // ---- attributes
 
 // Past the byte at a place, unless that closes the tag.
-fn onward(t: &[u8; 256], s: &[u8], at: usize) -> usize
-    requires { Marked t.now }
+fn onward(t: &Marks, s: &[u8], at: usize) -> usize
     ensures { result ≡ onward_at s.now at }
 {
-    if scan::closing_at(t, s, at) {
+    if t.closing_at(s, at) {
         return at;
     }
     scan::advance(s, at)
 }
 
 // What an attribute is given, with the `=` looked for at `eq`.
-fn parse_value(t: &[u8; 256], s: &[u8], eq: usize) -> Value
-    requires { Marked t.now }
+fn parse_value(t: &Marks, s: &[u8], eq: usize) -> Option<(usize, usize)>
     ensures { result ≡ value_of (white_in t.now) s.now eq }
 {
-    let Expected::Next(from) = scan::expect_and_skip(s, eq, b'=') else {
-        return Value::Missing;
-    };
-    let v = scan::skip_whitespaces(t, s, from);
-    let Current::Byte(q) = scan::current_cpy(s, v) else {
-        return Value::Given(v, v);
+    let from = scan::expect_and_skip(s, eq, b'=')?;
+    let v = t.skip_whitespaces(s, from);
+    let Some(q) = scan::current_cpy(s, v) else {
+        return Some((v, v));
     };
     if (q == b'"') | (q == b'\'') {
         let start = v + 1;
         let end = scan::find(s, start, q);
-        return Value::Given(start, end);
+        return Some((start, end));
     }
-    let end = scan::search_non_value(t, s, v);
-    Value::Given(v, end)
+    let end = t.search_non_value(s, v);
+    Some((v, end))
 }
 
 // The attribute whose name starts at the place.
-pub fn parse_attribute(t: &[u8; 256], s: &[u8], at: usize) -> Attribute
-    requires { Marked t.now }
+pub fn parse_attribute(t: &Marks, s: &[u8], at: usize) -> Attribute
     ensures { result ≡ attribute_at (white_in t.now) s.now at }
 {
-    let stop = scan::search_non_ident(t, s, at);
-    let eq = scan::skip_whitespaces(t, s, stop);
+    let stop = t.search_non_ident(s, at);
+    let eq = t.skip_whitespaces(s, stop);
     let value = parse_value(t, s, eq);
-    let Value::Given(_, end) = value else {
-        let next = onward(t, s, eq);
-        return Attribute {
-            name: at,
-            stop,
-            value: Value::Missing,
-            next,
-        };
+    let end = match value {
+        Some((_, end)) => end,
+        None => eq,
     };
     let next = onward(t, s, end);
     Attribute {
@@ -71,23 +62,27 @@ pub fn parse_attribute(t: &[u8; 256], s: &[u8], at: usize) -> Attribute
     }
 }
 
+// Whether an attribute starts at the place: the page does not end there, and no `/` or `>` stands there.
+pub fn starts_attribute(t: &Marks, s: &[u8], at: usize) -> bool
+    ensures { result ≡ here not_closing s.now at }
+{
+    match scan::current_cpy(s, at) {
+        Some(b) => !t.is_closing(b),
+        None => false,
+    }
+}
+
 // Where the attributes from a place on end: at a `/` or `>`, or at the end of the page.
-fn parse_attributes(t: &[u8; 256], s: &[u8], from: usize) -> usize
-    requires { Marked t.now × (from ≤ length s.now) }
+fn parse_attributes(t: &Marks, s: &[u8], from: usize) -> usize
+    requires { from ≤ length s.now }
     ensures { let p = s.now in result ≡ attributes_end (white_in t.now) (length p) p from }
 {
-    let mut i = from;
-    loop {
-        let at = scan::skip_whitespaces(t, s, i);
-        let Current::Byte(b) = scan::current_cpy(s, at) else {
-            return at;
-        };
-        if scan::is_closing(t, b) {
-            return at;
-        }
+    let mut at = t.skip_whitespaces(s, from);
+    while starts_attribute(t, s, at) {
         let a = parse_attribute(t, s, at);
-        i = a.next;
+        at = t.skip_whitespaces(s, a.next);
     }
+    at
 }
 
 // ---- what begins with `<!`
@@ -97,10 +92,16 @@ fn skip_comment_with_start(s: &[u8], start: usize, at: usize) -> Item
     ensures { let p = s.now in result ≡ comment_to p start (comment_end (length p) p at) }
 {
     let mut i = at;
+    // An index, since a step is one byte or three: a search for `--` would be no plainer.
     while i < s.len() {
         if constants::is_comment(s, i) {
             if scan::is_at(s, i + 2, b'>') {
-                return Item::Comment(start, i + 3, i + 3);
+                let end = i + 3;
+                return Item::Comment {
+                    start,
+                    end,
+                    next: end,
+                };
             }
             // The byte that was no `>` is passed too, as tl does.
             i += 3;
@@ -108,31 +109,35 @@ fn skip_comment_with_start(s: &[u8], start: usize, at: usize) -> Item
             i += 1;
         }
     }
-    Item::Comment(start, start, s.len())
+    Item::Comment {
+        start,
+        end: start,
+        next: s.len(),
+    }
 }
 
 // A declaration whose name starts at the place: a document type, or nothing.
-fn read_doctype(t: &[u8; 256], s: &[u8], at: usize) -> Item
-    requires { Marked t.now × (at ≤ length s.now) }
+fn read_doctype(t: &Marks, s: &[u8], at: usize) -> Item
+    requires { at ≤ length s.now }
     ensures { let p = s.now in
         let white = white_in t.now in
         result ≡ declaration_from white p at (skip is_ident p at) (skip white p (skip is_ident p at)) }
 {
-    let e = scan::search_non_ident(t, s, at);
-    let w = scan::skip_whitespaces(t, s, e);
+    let e = t.search_non_ident(s, at);
+    let w = t.skip_whitespaces(s, e);
     if constants::is_doctype(&s[at..e]) {
-        let f = scan::search_non_ident(t, s, w);
+        let f = t.search_non_ident(s, w);
         let html = constants::is_html(&s[w..f]);
-        let g = scan::skip_whitespaces(t, s, f);
+        let g = t.skip_whitespaces(s, f);
         let next = scan::advance(s, g);
-        return Item::Doctype(html, next);
+        return Item::Doctype { html, next };
     }
     Item::Nothing(w)
 }
 
 // What follows `<!`, with the `!` at the place: a comment, or a declaration.
-fn read_markdown(t: &[u8; 256], s: &[u8], at: usize) -> Item
-    requires { Marked t.now × (0 < at) × (at < length s.now) }
+fn read_markdown(t: &Marks, s: &[u8], at: usize) -> Item
+    requires { (0 < at) × (at < length s.now) }
     ensures { result ≡ bang (white_in t.now) s.now at }
 {
     if constants::is_comment(s, at + 1) {
@@ -150,25 +155,34 @@ fn read_end(s: &[u8], at: usize) -> Item
 {
     let e = scan::find(s, at, b'>');
     let next = scan::advance(s, e);
-    Item::Close(at, e, next)
+    Item::Close {
+        name: at,
+        stop: e,
+        next,
+    }
 }
 
 // A tag whose name runs from `at` to `e`, with the `>` looked for at `c`; without it nothing.
 fn end_tag(s: &[u8], at: usize, e: usize, c: usize, slash: bool) -> Item
     ensures { result ≡ tag_to s.now at e c slash }
 {
-    let Expected::Next(next) = scan::expect_and_skip(s, c, b'>') else {
+    let Some(next) = scan::expect_and_skip(s, c, b'>') else {
         return Item::Nothing(c);
     };
-    Item::Tag(at, e, next, slash)
+    Item::Tag {
+        name: at,
+        stop: e,
+        next,
+        slash,
+    }
 }
 
 // A tag whose name starts at the place.
-fn read_tag(t: &[u8; 256], s: &[u8], at: usize) -> Item
-    requires { Marked t.now × (at ≤ length s.now) }
+fn read_tag(t: &Marks, s: &[u8], at: usize) -> Item
+    requires { at ≤ length s.now }
     ensures { result ≡ tag (white_in t.now) s.now at }
 {
-    let e = scan::search_non_ident(t, s, at);
+    let e = t.search_non_ident(s, at);
     let a = parse_attributes(t, s, e);
     if scan::is_at(s, a, b'/') {
         return end_tag(s, at, e, a + 1, true);
@@ -177,14 +191,14 @@ fn read_tag(t: &[u8; 256], s: &[u8], at: usize) -> Item
 }
 
 // What follows a `<` at the place.
-fn parse_tag(t: &[u8; 256], s: &[u8], at: usize) -> Item
-    requires { Marked t.now × (at < length s.now) }
+fn parse_tag(t: &Marks, s: &[u8], at: usize) -> Item
+    requires { at < length s.now }
     ensures { let p = s.now in
         let white = white_in t.now in
         result ≡ markup white p (skip white p (pass p at)) }
 {
-    let q = scan::skip_whitespaces(t, s, at + 1);
-    let Current::Byte(b) = scan::current_cpy(s, q) else {
+    let q = t.skip_whitespaces(s, at + 1);
+    let Some(b) = scan::current_cpy(s, q) else {
         return Item::Nothing(q);
     };
     if b == b'/' {
@@ -197,8 +211,7 @@ fn parse_tag(t: &[u8; 256], s: &[u8], at: usize) -> Item
 }
 
 // What stands at the place: a text up to the next `<`, or what begins with `<`.
-pub fn item_at(t: &[u8; 256], s: &[u8], at: usize) -> Item
-    requires { Marked t.now }
+pub fn item_at(t: &Marks, s: &[u8], at: usize) -> Item
     ensures { result ≡ item_at (white_in t.now) s.now at }
 {
     if scan::is_at(s, at, b'<') {

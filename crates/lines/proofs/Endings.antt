@@ -1,4 +1,5 @@
 -- A text that was written from the start of the buffer is all that is printed, or it found no room.
+use Rattle.std.proofs.Common.{Result, Ok, Err}
 use mathlib.Core.Path.{◌≡◌, refl, sym, ◌∙◌}
 use mathlib.Core.Bool.{Bool, true, false}
 use mathlib.Core.List.{List}
@@ -11,13 +12,14 @@ use borrow.Author.Tests.{ltb-true, ltb-false, lt-ltb, le-ltb}
 use Rattle.rules.specs.Scan.{pick}
 use Rattle.rules.specs.Refusals.{Counts, counted}
 use Rattle.rules.specs.declared.Refusal.TheVariants.{BufferTooShort}
-use Rattle.rules.specs.declared.Counted.{Counted}
-use Rattle.rules.specs.declared.Counted.TheVariants.{Count, Refused}
 use Rattle.lines.specs.Writes.{Writes, Ends}
+use Rattle.lines.specs.Writer.{Puts}
+use Rattle.lines.specs.declared.Writer.{Writer}
 use Rattle.lines.proofs.Laws.{same_size}
+use Rattle.rules.specs.declared.Refusal.{Refusal}
 
-pub printed : {out text o left : List ℕ} {at : ℕ} {r : Counted} → Writes out 0 text o at → Ends o at left r → Counts text out r left
-printed {out} {text} {o} {left} {at} {r} w e = go (ltb (length out) (length text)) refl
+written : {out text o left : List ℕ} {at : ℕ} {r : Result ℕ Refusal} → Writes out 0 text o at → Ends o at left r → Counts text out r left
+written {out} {text} {o} {left} {at} {r} w e = go (ltb (length out) (length text)) refl
   where
     size : length o ≡ length out
     size = same_size w
@@ -36,10 +38,15 @@ printed {out} {text} {o} {left} {at} {r} w e = go (ltb (length out) (length text
         let z : 0 + length text ≡ length text = omega arith in
         record { is = answer; left = e.bytes ∙ rw (e.answer, f) (w.bytes ∙ rw z at (sets-eq text out 0 (omega arith))) }
 
+-- by a writer that was made for the buffer
+pub printed : {out text left : List ℕ} {u v : Writer} {r : Result ℕ Refusal} → u.out.now ≡ out → u.at ≡ 0 → Puts u text v → Ends v.out.now v.at left r
+    → Counts text out r left
+printed d e p = written (rw (d, e) at p.written)
+
 -- for callers: what was counted lies in the buffer
-pub count_within : {out text left : List ℕ} {r : Counted} (k : ℕ) → Counts text out r left → r ≡ Count k → k ≤ length out
+pub count_within : {out text left : List ℕ} {r : Result ℕ Refusal} (k : ℕ) → Counts text out r left → r ≡ Ok k → k ≤ length out
 count_within {out} {text} k p e = go (ltb (length out) (length text)) refl (sym p.is ∙ e)
   where
-    go : (b : Bool) → ltb (length out) (length text) ≡ b → pick b (Refused BufferTooShort) (Count (length text)) ≡ Count k → k ≤ length out
+    go : (b : Bool) → ltb (length out) (length text) ≡ b → pick b (Err BufferTooShort) (Ok (length text)) ≡ Ok k → k ≤ length out
     go true q z = let f : ◌≡◌ {A = ℕ} 0 1 = cc in absurd (omega arith)
     go false q z = let n : length text ≡ k = cc in omega (arith, ltb-false (length out) (length text) q)

@@ -1,11 +1,11 @@
--- The listing of document 01's page `<br><p>Hello</p>`, computed.
+-- The listing of the page `<br><p>Hello</p>`, computed.
 use mathlib.Core.Path.{◌≡◌, refl}
 use mathlib.Core.List.{List, [], ◌∷◌, ◌++◌}
 use Prim.Native.Nat.{ℕ}
 use Rattle.rules.specs.Lists.{from, each}
 use Rattle.rules.specs.Questions.{tag_row, text_row}
 use Rattle.rules.specs.Table.{node_at}
-use Rattle.lines.specs.Decimal.{digits, decimal}
+use Rattle.std.specs.Fmt.{digits}
 use Rattle.lines.specs.Lines.{node_line, head_line, listing_text}
 
 abbrev page : List ℕ
@@ -21,5 +21,5 @@ pub listed : listing_text page table ≡
     ++ ((48 ∷ 32 ∷ 116 ∷ 97 ∷ 103 ∷ 32 ∷ 45 ∷ 32 ∷ 48 ∷ 32 ∷ 52 ∷ 32 ∷ 48 ∷ 32 ∷ 98 ∷ 114 ∷ 10 ∷ [])
     ++ ((49 ∷ 32 ∷ 116 ∷ 97 ∷ 103 ∷ 32 ∷ 45 ∷ 32 ∷ 52 ∷ 32 ∷ 49 ∷ 54 ∷ 32 ∷ 50 ∷ 32 ∷ 112 ∷ 10 ∷ [])
     ++ (50 ∷ 32 ∷ 116 ∷ 101 ∷ 120 ∷ 116 ∷ 32 ∷ 49 ∷ 32 ∷ 55 ∷ 32 ∷ 49 ∷ 50 ∷ 32 ∷ 50 ∷ 10 ∷ [])))
-unfolding listing_text head_line node_line decimal digits each from node_at
+unfolding listing_text head_line node_line digits each from node_at
 listed = refl

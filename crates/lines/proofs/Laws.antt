@@ -9,8 +9,11 @@ use lib.Dec.{leb}
 use lib.ListN.{length, get_or, take, set, length-append}
 use lib.Seq.{sets, length-sets, set_out, take-suc}
 use borrow.Author.Tests.{leb-true, leb-false}
-use Rattle.lines.specs.Lines.{name_field}
+use Rattle.std.specs.List.{flat_map}
+use Rattle.std.proofs.lemmas.List.{flat_map_more, take_more}
 use Rattle.lines.specs.Writes.{Writes}
+use Rattle.lines.specs.Writer.{Puts}
+use Rattle.lines.specs.declared.Writer.{Writer}
 
 -- nothing is written past the end
 pub sets_past : (out : List ℕ) (at : ℕ) (t : List ℕ) → length out ≤ at → sets out at t ≡ out
@@ -41,8 +44,8 @@ module _ {out : List ℕ} {at : ℕ} {s o : List ℕ} {r : ℕ} (a : Writes out 
   pub same_size : length o ≡ length out
   same_size = ap length a.bytes ∙ length-sets out at s
 
-  pub then : {t o₂ : List ℕ} {r₂ : ℕ} → Writes o r t o₂ r₂ → Writes out at (s ++ t) o₂ r₂
-  then {t} {o₂} {r₂} b =
+  pub then_writes : {t o₂ : List ℕ} {r₂ : ℕ} → Writes o r t o₂ r₂ → Writes out at (s ++ t) o₂ r₂
+  then_writes {t} {o₂} {r₂} b =
       let x : ℕ = suc (length out) - at in
       let next : r ≡ at + min (length s) (suc (length o) - at) = rw same_size a.place in
       let left : suc (length o) - r ≡ x - min (length s) x = rw (same_size, a.place) (omega arith) in
@@ -53,25 +56,24 @@ module _ {out : List ℕ} {at : ℕ} {s o : List ℕ} {r : ℕ} (a : Writes out 
         place = b.place ∙ rw (left, length-append) (omega (arith, a.place, steps x (length s) (length t)));
       }
 
--- nothing more to write
-pub none : (out : List ℕ) (at : ℕ) → Writes out at [] out at
-none out at = record { bytes = refl; place = omega arith }
-
 -- a byte that finds no room
 pub full : (out : List ℕ) (at b r : ℕ) → length out ≤ at → r ≡ at + min 1 (suc (length out) - at) → Writes out at (b ∷ []) out r
 full out at b r l e = record { bytes = sym (sets_past out at (b ∷ []) l); place = e }
 
+-- ---- the same of a writer
+-- nothing more to write
+pub none : (w : Writer) → Puts w [] w
+none w = record { written = record { bytes = refl; place = omega arith }; same = refl }
+
+pub then : {u v w : Writer} {s t : List ℕ} → Puts u s v → Puts v t w → Puts u (s ++ t) w
+then a b = record { written = then_writes a.written b.written; same = b.same ∙ a.same }
+
 -- a loop over the bytes of a text
-pub then_byte : {out : List ℕ} {at : ℕ} {o o₂ : List ℕ} {r r₂ : ℕ} (text : List ℕ) (i : ℕ) → i < length text
-    → Writes out at (take i text) o r → Writes o r (get_or text i 0 ∷ []) o₂ r₂ → Writes out at (take (i + 1) text) o₂ r₂
+pub then_byte : {u v w : Writer} (text : List ℕ) (i : ℕ) → i < length text → Puts u (take i text) v → Puts v (get_or text i 0 ∷ []) w
+    → Puts u (take (i + 1) text) w
 then_byte text i l a b = rw (add-one, take-suc text i 0) (then a b)
 
--- a name, by its length
-pub no_name : {out : List ℕ} {at : ℕ} (name : List ℕ) → length name ≡ 0 → Writes out at (name_field name) out at
-no_name {out} {at} [] e = none out at
-no_name (b ∷ bs) e = absurd (omega arith)
-
-pub some_name : {out : List ℕ} {at : ℕ} {o o₂ : List ℕ} {r r₂ : ℕ} (name : List ℕ) → (length name ≡ 0 → ⊥)
-    → Writes out at (32 ∷ []) o r → Writes o r name o₂ r₂ → Writes out at (name_field name) o₂ r₂
-some_name [] e a b = absurd (e refl)
-some_name (x ∷ xs) e a b = then a b
+-- a loop over the items of a list
+pub then_item : {A : Type 0} (f : A → List ℕ) {u v w : Writer} (items : List A) (i : ℕ) (d : A) → i < length items
+    → Puts u (flat_map f (take i items)) v → Puts v (f (get_or items i d)) w → Puts u (flat_map f (take (i + 1) items)) w
+then_item f items i d l a b = rw (take_more items i d l, ← flat_map_more f [] (take i items) (get_or items i d)) (then a b)

@@ -12,7 +12,8 @@ use Rattle.rules.specs.Sound.{count_of, sound}
 use Rattle.rules.specs.declared.Node.{Node}
 use Rattle.rules.proofs.Sound.{sound_rows}
 use Rattle.lines.specs.Lines.{NameWithin}
-use Rattle.lines.specs.Writes.{Writes}
+use Rattle.lines.specs.Writer.{Puts}
+use Rattle.lines.specs.declared.Writer.{Writer}
 use Rattle.lines.proofs.Laws.{then}
 
 -- one number more at the end
@@ -23,9 +24,8 @@ each_more f lo (suc k) =
     let e : suc lo + k ≡ lo + suc k = omega arith in
     ap (λ (l : List ℕ). f lo ++ l) (each_more f (suc lo) k) ∙ rw (e, append_assoc)
 
-pub then_row : (f : ℕ → List ℕ) {out : List ℕ} {at h : ℕ} {o o₂ : List ℕ} {r r₂ : ℕ}
-    → Writes out at (each f (from 0 h)) o r → Writes o r (f h) o₂ r₂ → Writes out at (each f (from 0 (h + 1))) o₂ r₂
-then_row f {h = h} a b =
+pub then_row : (f : ℕ → List ℕ) {u v w : Writer} (h : ℕ) → Puts u (each f (from 0 h)) v → Puts v (f h) w → Puts u (each f (from 0 (h + 1))) w
+then_row f h a b =
     let e : 0 + h ≡ h = omega arith in
     rw (add-one, each_more f 0 h, e) (then a b)
 

@@ -1,5 +1,5 @@
--- What the listing program prints (document 01, "Checked pages"), as bytes.
-use Rattle.std.specs.Prelude.{◌≡◌, ℕ, ◌-◌, ◌≤◌, List, [], ◌∷◌, ◌++◌, eqb, length, get_or}
+-- What the listing program prints, as bytes.
+use Rattle.std.specs.Prelude.{◌≡◌, ℕ, ◌-◌, ◌≤◌, List, [], ◌∷◌, ◌++◌, eqb, length, get_or, decimal, Result, Ok, Err}
 use Rattle.rules.specs.Ascii.{bytes}
 use Rattle.rules.specs.Scan.{pick}
 use Rattle.rules.specs.Lists.{each}
@@ -9,9 +9,7 @@ use Rattle.rules.specs.Finds.{handles}
 use Rattle.rules.specs.Query.{name_of}
 use Rattle.rules.specs.Refusals.{number_of}
 use Rattle.rules.specs.declared.Node.{Node}
-use Rattle.rules.specs.declared.Counted.{Counted}
-use Rattle.rules.specs.declared.Counted.TheVariants.{Count, Refused}
-use Rattle.lines.specs.Decimal.{decimal}
+use Rattle.rules.specs.declared.Refusal.{Refusal}
 
 -- a space and a text
 abbrev pub field : List ℕ → List ℕ
@@ -73,6 +71,6 @@ unfoldable pub refused_text : ℕ → List ℕ
 refused_text number = bytes "refused" ++ (field (decimal number) ++ line_feed)
 
 -- what is printed, by what reading the page into the table answered
-abbrev pub answer_text : List ℕ → List ℕ → Counted → List ℕ
-answer_text p ws (Count n) = listing_text p ws
-answer_text p ws (Refused x) = refused_text (number_of x)
+abbrev pub answer_text : List ℕ → List ℕ → Result ℕ Refusal → List ℕ
+answer_text p ws (Ok n) = listing_text p ws
+answer_text p ws (Err x) = refused_text (number_of x)

@@ -2,213 +2,210 @@
 
 #![tactic(auto)]
 
-ghost use Rattle.std.specs.Prelude.{◌≡◌, true, [], ◌∷◌, ℕ, length, replicate};
+ghost use Rattle.std.specs.Prelude.{◌≡◌, true, [], ◌∷◌, ◌++◌, ℕ, length, flat_map, Ok};
 ghost use Rattle.rules.specs.Sound.{sound};
 ghost use Rattle.rules.specs.Refusals.{Counts, number_of};
-ghost use Rattle.rules.specs.declared.Counted.TheVariants.{Count};
-ghost use Rattle.lines.specs.Decimal.{decimal};
-ghost use Rattle.lines.specs.Lines.{field, kind_name, parent_name, name_field, tag_name, NameWithin};
+ghost use Rattle.lines.specs.Lines.{field, kind_name, parent_name, tag_name, NameWithin};
 ghost use Rattle.lines.specs.Lines.{node_line, head_line, listing_text, refused_text, answer_text};
-ghost use Rattle.lines.specs.Writes.{Writes, Ends};
+ghost use Rattle.lines.specs.Writer.{Puts};
+ghost use Rattle.lines.specs.Writes.{Ends};
 
-use rules::{Counted, Node, Refusal};
+use itoa::{Buffer, Integer};
+use rules::{Node, Refusal};
+use sound::Document;
 
-// ---- one text at a place of the buffer; each function answers the place after it
+// A lent buffer, and the place after what was written into it. A byte that finds no room is not written, and the place then stays
+// one past the end.
+#[derive(Drop)]
+pub struct Writer<'a> {
+    pub out: &'a mut [u8],
+    pub at: usize,
+}
 
-// A byte that finds no room is not written, and the place then stays one past the end.
-pub fn put_byte(out: &mut [u8], at: usize, b: u8) -> usize
-    ensures { Writes out.old at (b ∷ []) out.new result }
-{
-    if at < out.len() {
-        out[at] = b;
-        return at + 1;
+impl<'a> Writer<'a> {
+    pub fn new(out: &'a mut [u8]) -> Writer<'a>
+        ensures same { result.out.ghost_name ≡ out.entry.ghost_name }
+        ensures bytes { result.out.now ≡ out.old }
+        ensures place { result.at ≡ 0 }
+    {
+        Writer { out, at: 0 }
     }
-    if at == out.len() { at + 1 } else { at }
-}
 
-pub fn put(out: &mut [u8], at: usize, text: &[u8]) -> usize
-    ensures { Writes out.old at text.now out.new result }
-{
-    let mut place = at;
-    let mut i = 0;
-    while i < text.len() {
-        place = put_byte(out, place, text[i]);
-        i += 1;
+    pub fn put_byte(&mut self, b: u8)
+        ensures { Puts self.old (b ∷ []) self.new }
+    {
+        if self.at < self.out.len() {
+            self.out[self.at] = b;
+        }
+        if self.at <= self.out.len() {
+            self.at += 1;
+        }
     }
-    place
-}
 
-// The digits before the last one come first.
-fn put_decimal(out: &mut [u8], at: usize, n: usize) -> usize
-    ensures { Writes out.old at (decimal n) out.new result }
-{
-    if n < 10 {
-        return put_byte(out, at, 48 + n as u8);
+    pub fn put(&mut self, text: &[u8])
+        ensures { Puts self.old text.now self.new }
+    {
+        for b in text {
+            self.put_byte(*b);
+        }
     }
-    let next = put_decimal(out, at, n / 10);
-    put_byte(out, next, 48 + (n % 10) as u8)
-}
 
-// A space and a number.
-pub fn put_size(out: &mut [u8], at: usize, n: usize) -> usize
-    ensures { Writes out.old at (field (decimal n)) out.new result }
-{
-    let next = put_byte(out, at, b' ');
-    put_decimal(out, next, n)
-}
+    pub fn put_number<I: Integer>(&mut self, n: I)
+        ensures { Puts self.old (I.text n) self.new }
+    {
+        let mut digits = Buffer::new();
+        self.put(digits.format(n).as_bytes());
+    }
 
-fn put_number(out: &mut [u8], at: usize, n: u32) -> usize
-    ensures { Writes out.old at (field (decimal n)) out.new result }
-{
-    put_size(out, at, n as usize)
-}
+    // A space and a word.
+    pub fn put_word(&mut self, word: &[u8])
+        ensures { Puts self.old (field word.now) self.new }
+    {
+        self.put_byte(b' ');
+        self.put(word);
+    }
 
-fn put_kind(out: &mut [u8], at: usize, kind: u32) -> usize
-    ensures { Writes out.old at (field (kind_name kind)) out.new result }
-{
-    if kind == 1 {
-        put(out, at, b" tag")
-    } else if kind == 2 {
-        put(out, at, b" text")
-    } else {
-        put(out, at, b" comment")
+    // A space and a number.
+    pub fn put_field<I: Integer>(&mut self, n: I)
+        ensures { Puts self.old (field (I.text n)) self.new }
+    {
+        self.put_byte(b' ');
+        self.put_number(n);
+    }
+
+    // Each number after a space.
+    pub fn put_fields<I: Integer>(&mut self, numbers: &[I])
+        ensures { Puts self.old (flat_map (λ n. field (I.text n)) numbers.now) self.new }
+    {
+        for n in numbers {
+            self.put_field(*n);
+        }
+    }
+
+    // ---- the lines
+
+    fn put_parent(&mut self, parent: u32)
+        ensures { Puts self.old (field (parent_name parent)) self.new }
+    {
+        if parent == 0 {
+            self.put_word(b"-");
+        } else {
+            self.put_field(parent - 1);
+        }
+    }
+
+    // The name of a tag, if it has one; another node has none.
+    fn put_name(&mut self, page: &[u8], n: Node)
+        requires { NameWithin page.now n }
+        ensures { Puts self.old (tag_name page.now n) self.new }
+    {
+        if n.kind != 1 {
+            return;
+        }
+        let name = &page[n.name as usize..n.stop as usize];
+        if !name.is_empty() {
+            self.put_word(name);
+        }
+    }
+
+    // The line of the node n of handle h.
+    fn put_line(&mut self, page: &[u8], h: usize, n: Node)
+        requires { NameWithin page.now n }
+        ensures { Puts self.old (node_line page.now h n) self.new }
+    {
+        self.put_number(h);
+        self.put_word(kind_name(n.kind));
+        self.put_parent(n.parent);
+        self.put_field(n.start);
+        self.put_field(n.end);
+        self.put_field(n.last);
+        self.put_name(page, n);
+        self.put_byte(b'\n');
+    }
+
+    fn put_head(&mut self, count: usize, version: u32)
+        ensures { Puts self.old (head_line count version) self.new }
+    {
+        self.put(b"nodes");
+        self.put_field(count);
+        self.put_word(b"version");
+        self.put_field(version);
+        self.put_byte(b'\n');
+    }
+
+    fn put_listing(&mut self, d: &Document)
+        ensures { Puts self.old (listing_text d.now.page.now d.now.table.now) self.new }
+    {
+        self.put_head(d.count(), d.version());
+        for h in 0..d.count() {
+            self.put_line(d.page, h, d.row(h));
+        }
+    }
+
+    fn put_refused(&mut self, number: u32)
+        ensures { Puts self.old (refused_text number) self.new }
+    {
+        self.put(b"refused");
+        self.put_field(number);
+        self.put_byte(b'\n');
+    }
+
+    // What was written is counted, or cleared where it found no room.
+    fn finish(&mut self) -> Result<usize, Refusal>
+        ensures text { Ends self.old.out.now self.old.at self.new.out.now result }
+        ensures same { self.new.out.ghost_name ≡ self.old.out.ghost_name }
+    {
+        if self.out.len() < self.at {
+            self.out.fill(0);
+            return Err(Refusal::BufferTooShort);
+        }
+        Ok(self.at)
     }
 }
 
-fn put_parent(out: &mut [u8], at: usize, parent: u32) -> usize
-    ensures { Writes out.old at (field (parent_name parent)) out.new result }
+// A kind is a number here, since it is the word of a row that a program in C reads too.
+fn kind_name(kind: u32) -> &'static [u8]
+    ensures { result.now ≡ kind_name kind }
 {
-    if parent == 0 {
-        put(out, at, b" -")
-    } else {
-        put_number(out, at, parent - 1)
+    match kind {
+        1 => b"tag",
+        2 => b"text",
+        _ => b"comment",
     }
-}
-
-fn put_name(out: &mut [u8], at: usize, name: &[u8]) -> usize
-    ensures { Writes out.old at (name_field name.now) out.new result }
-{
-    if name.len() == 0 {
-        return at;
-    }
-    let next = put_byte(out, at, b' ');
-    put(out, next, name)
-}
-
-// The name of a tag; another node has none.
-fn put_tag(out: &mut [u8], at: usize, page: &[u8], n: Node) -> usize
-    requires { NameWithin page.now n }
-    ensures { Writes out.old at (tag_name page.now n) out.new result }
-{
-    if n.kind != 1 {
-        return at;
-    }
-    let a = n.name as usize;
-    let e = n.stop as usize;
-    put_name(out, at, &page[a..e])
-}
-
-// ---- the lines
-
-// The line of the node n of handle h.
-fn put_line(out: &mut [u8], at: usize, page: &[u8], h: u32, n: Node) -> usize
-    requires { NameWithin page.now n }
-    ensures { Writes out.old at (node_line page.now h n) out.new result }
-{
-    let own = put_decimal(out, at, h as usize);
-    let kind = put_kind(out, own, n.kind);
-    let parent = put_parent(out, kind, n.parent);
-    let start = put_number(out, parent, n.start);
-    let end = put_number(out, start, n.end);
-    let last = put_number(out, end, n.last);
-    let name = put_tag(out, last, page, n);
-    put_byte(out, name, b'\n')
-}
-
-fn put_head(out: &mut [u8], count: u32, version: u32) -> usize
-    ensures { Writes out.old 0 (head_line count version) out.new result }
-{
-    let nodes = put(out, 0, b"nodes");
-    let counted = put_number(out, nodes, count);
-    let word = put(out, counted, b" version");
-    let end = put_number(out, word, version);
-    put_byte(out, end, b'\n')
-}
-
-fn put_listing(out: &mut [u8], page: &[u8], table: &[u32]) -> usize
-    requires { sound (length page.now) table.now ≡ true }
-    ensures { Writes out.old 0 (listing_text page.now table.now) out.new result }
-{
-    let count = table[0];
-    let mut at = put_head(out, count, table[1]);
-    let mut h = 0;
-    while h < count {
-        let n = table::row_at(table, h as usize);
-        at = put_line(out, at, page, h, n);
-        h += 1;
-    }
-    at
-}
-
-fn put_refused(out: &mut [u8], number: u32) -> usize
-    ensures { Writes out.old 0 (refused_text number) out.new result }
-{
-    let word = put(out, 0, b"refused");
-    let end = put_number(out, word, number);
-    put_byte(out, end, b'\n')
 }
 
 // ---- the whole text, or a refusal for lack of room
 
-// What was written up to a place is counted, or cleared where it found no room.
-fn finish(out: &mut [u8], at: usize) -> Counted
-    ensures { Ends out.old at out.new result }
-{
-    if out.len() < at {
-        table::clear_bytes(out);
-        return Counted::Refused(Refusal::BufferTooShort);
-    }
-    Counted::Count(at)
-}
-
-fn number_of(x: Refusal) -> u32
-    ensures { result ≡ number_of x }
-{
-    match x {
-        Refusal::PageTooLong => 1,
-        Refusal::TableTooSmall => 2,
-        Refusal::TableNotSound => 3,
-        Refusal::NotATag => 4,
-        Refusal::SelectorTooLong => 5,
-        Refusal::SelectorNotRead => 6,
-        Refusal::BufferTooShort => 7,
-    }
-}
-
 // The listing of a page, by its table.
-pub fn listing(page: &[u8], table: &[u32], out: &mut [u8]) -> Counted
-    requires { sound (length page.now) table.now ≡ true }
-    ensures { Counts (listing_text page.now table.now) out.old result out.new }
+pub fn listing(d: &Document, out: &mut [u8]) -> Result<usize, Refusal>
+    ensures { Counts (listing_text d.now.page.now d.now.table.now) out.old result out.new }
 {
-    let at = put_listing(out, page, table);
-    finish(out, at)
+    let mut writer = Writer::new(out);
+    writer.put_listing(d);
+    writer.finish()
 }
 
 // The line of a refusal.
-pub fn refused(x: Refusal, out: &mut [u8]) -> Counted
+pub fn refused(x: Refusal, out: &mut [u8]) -> Result<usize, Refusal>
     ensures { Counts (refused_text (number_of x)) out.old result out.new }
 {
-    let at = put_refused(out, number_of(x));
-    finish(out, at)
+    let mut writer = Writer::new(out);
+    writer.put_refused(u32::from(x));
+    writer.finish()
 }
 
 // What is printed where reading the page into the table answered `read`.
-pub fn answer(page: &[u8], table: &[u32], read: Counted, out: &mut [u8]) -> Counted
-    requires { (n : ℕ) → read ≡ Count n → sound (length page.now) table.now ≡ true }
+pub fn answer(
+    page: &[u8],
+    table: &[u32],
+    read: Result<usize, Refusal>,
+    out: &mut [u8],
+) -> Result<usize, Refusal>
+    requires { (n : ℕ) → read ≡ Ok n → sound (length page.now) table.now ≡ true }
     ensures { Counts (answer_text page.now table.now read) out.old result out.new }
 {
     match read {
-        Counted::Count(_) => listing(page, table, out),
-        Counted::Refused(x) => refused(x, out),
+        Ok(_) => listing(&Document { page, table }, out),
+        Err(x) => refused(x, out),
     }
 }

@@ -4,12 +4,12 @@
 
 ghost use Rattle.listing.specs.Lists.{Lists};
 
-use rules::Counted;
+use rules::Refusal;
 use std::io;
 use std::io::Print;
 
 // Reads the page into the table, and writes what is printed of it into `out`.
-fn list(page: &[u8], table: &mut [u32], out: &mut [u8]) -> Counted
+fn list(page: &[u8], table: &mut [u32], out: &mut [u8]) -> Result<usize, Refusal>
     ensures { Lists page.now table.old out.old table.new out.new result }
 {
     let read = parser::parse(page, table);
@@ -25,7 +25,7 @@ fn main(rt: HostRuntime) -> io::Result<()> {
     let mut out = [0u8; 129222];
     let n = input::read_full(&mut rt.stdin(), &mut page)?;
     let r = list(&page[..n], &mut table, &mut out);
-    let Counted::Count(k) = r else {
+    let Ok(k) = r else {
         return Ok(());
     };
     rt.write_all(&out[..k])

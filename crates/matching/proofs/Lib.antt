@@ -1,4 +1,3 @@
 pub mod Values
 pub mod Openings
-pub mod Rows
 pub mod Settling

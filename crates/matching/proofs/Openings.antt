@@ -6,20 +6,17 @@ use Prim.Native.Nat.{ℕ, ◌≤◌, ◌<◌}
 use native.Mathlib.Omega.{arith}
 use lib.ListN.{length}
 use lib.Seq.{length-take-le}
-use Rattle.rules.specs.Scan.{part, same}
-use Rattle.rules.specs.Words.{Within, ascii_white, unicode_white, begins, ends, contains}
+use Rattle.rules.specs.Scan.{part}
+use Rattle.rules.specs.Words.{Within, ascii_white, has_word}
 use Rattle.rules.specs.Lookup.{Inside, Answer, absent, bare, value, answer, bytes_in, lookup, up_to}
 use Rattle.rules.specs.Finds.{valued, held_times}
 use Rattle.rules.specs.declared.Node.{Node}
 use Rattle.rules.specs.declared.Held.{Held}
 use Rattle.rules.specs.declared.Held.TheVariants.{Absent, Bare, Value}
 use Rattle.rules.proofs.Lookup.{lookup_inside}
-use Rattle.rules.proofs.Within.{within_part, same_within, begins_within, ends_within, contains_within, times_none}
+use Rattle.rules.proofs.Within.{within_part, times_none}
 use Rattle.laws.proofs.CutLexer.{part_cut}
 use Rattle.laws.proofs.Opening.{From, lookup_from_lem}
-use Rattle.matching.specs.Matching.{compared}
-use Rattle.matching.specs.declared.Compare.{Compare}
-use Rattle.matching.specs.declared.Compare.TheVariants.{Equal, ClassWord, Word, StartsWith, EndsWith, Substring}
 
 module _ (k : List ℕ) where
   -- k is not within the value
@@ -28,29 +25,28 @@ module _ (k : List ℕ) where
   Out bare = Unit {0}
   Out (value v) = Within k v → ⊥
 
-  fails : (b : Bool) {v : List ℕ} → (b ≡ true → Within k v) → (Within k v → ⊥) → b ≡ false
-  fails true holds out = absurd (out (holds refl))
-  fails false holds out = refl
+  -- a test passes no value that k is not within, if what passes has k within
+  pub passes_none : (P : List ℕ → Bool) → ((v : List ℕ) → P v ≡ true → Within k v) → (v : List ℕ) → (Within k v → ⊥) → P v ≡ false
+  passes_none P holds v out = go (P v) (holds v)
+    where
+      go : (b : Bool) → (b ≡ true → Within k v) → b ≡ false
+      go true h = absurd (out (h refl))
+      go false h = refl
 
-  compared_out : (how : Compare) (v : List ℕ) → (Within k v → ⊥) → compared how k v ≡ false
-  compared_out Equal v out = fails (same v k) (same_within k v) out
-  compared_out ClassWord v out = rw (times_none k ascii_white v out)
-  compared_out Word v out = rw (times_none k unicode_white v out)
-  compared_out StartsWith v out = fails (begins k v) (begins_within k v) out
-  compared_out EndsWith v out = fails (ends k v) (ends_within k v) out
-  compared_out Substring v out = fails (contains k v) (contains_within k v) out
+  pub word_none : (seps : List (List ℕ)) (v : List ℕ) → (Within k v → ⊥) → has_word seps k v ≡ false
+  word_none seps v out = rw (times_none k seps v out)
 
-  valued_out : (how : Compare) (a : Answer) → Out a → false ≡ valued (compared how k) a
-  valued_out how absent out = refl
-  valued_out how bare out = refl
-  valued_out how (value v) out = sym (compared_out how v out)
+  valued_out : (P : List ℕ → Bool) → ((v : List ℕ) → (Within k v → ⊥) → P v ≡ false) → (a : Answer) → Out a → false ≡ valued P a
+  valued_out P none absent out = refl
+  valued_out P none bare out = refl
+  valued_out P none (value v) out = sym (none v out)
 
   times_out : (a : Answer) → Out a → 0 ≡ held_times k a
   times_out absent out = refl
   times_out bare out = refl
   times_out (value v) out = sym (times_none k ascii_white v out)
 
-  module _ (white : ℕ → Bool) (p : List ℕ) (n : Node) (l : n.stop < n.opened) (h : n.opened ≤ length p)
+  module _ (white : ℕ → Bool) (p : List ℕ) (n : Node) (opening : (n.stop < n.opened) × (n.opened ≤ length p))
       (out : Within k (part p n.stop n.opened) → ⊥) (name : List ℕ)
     where
       answer_out : Out (answer white p n name)
@@ -62,7 +58,7 @@ module _ (k : List ℕ) where
           q = up_to p n
 
           size : length q ≡ n.opened
-          size = length-take-le n.opened p h
+          size = length-take-le n.opened p opening.1
 
           go : (r : Held) → Inside (length q) r → From n.stop r → Out (bytes_in q r)
           go Absent i f = tt
@@ -70,8 +66,8 @@ module _ (k : List ℕ) where
           go (Value a e) i f =
               λ w. out (rw (part_cut p n.opened n.stop n.opened (omega arith)) at (within_part q n.stop a e n.opened f i.0 (omega (arith, i.1, size)) w))
 
-      pub no_value : (how : Compare) → false ≡ valued (compared how k) (answer white p n name)
-      no_value how = valued_out how (answer white p n name) answer_out
+      pub no_value : (P : List ℕ → Bool) → ((v : List ℕ) → (Within k v → ⊥) → P v ≡ false) → false ≡ valued P (answer white p n name)
+      no_value P none = valued_out P none (answer white p n name) answer_out
 
       pub no_times : 0 ≡ held_times k (answer white p n name)
       no_times = times_out (answer white p n name) answer_out

@@ -1,32 +1,26 @@
--- How a value is compared, and what is asked of a row.
-use Rattle.std.specs.Prelude.{◌≡◌, Bool, true, false, List, ℕ, ◌≤◌, ◌<◌, length}
-use Rattle.rules.specs.Scan.{pick, same}
-use Rattle.rules.specs.Words.{ascii_white, unicode_white, has_word, begins, ends, contains}
+-- What is told of a value, what is asked of a row, and what a piece settles.
+use Rattle.std.specs.Prelude.{◌≡◌, Bool, true, false, List, ℕ, ◌≤◌, ◌<◌, length, Option, Some, None}
+use Rattle.rules.specs.Scan.{pick}
+use Rattle.rules.specs.Words.{Within}
+use Rattle.rules.specs.Lookup.{Answer}
+use Rattle.rules.specs.Finds.{valued}
 use Rattle.rules.specs.declared.Node.{Node}
 use Rattle.rules.specs.declared.Joiner.{Joiner}
 use Rattle.rules.specs.declared.Joiner.TheVariants.{End, And, Or, Descendant, Parent}
-use Rattle.matching.specs.declared.Compare.{Compare}
-use Rattle.matching.specs.declared.Compare.TheVariants.{Equal, ClassWord, Word, StartsWith, EndsWith, Substring}
-use Rattle.matching.specs.declared.Settled.{Settled}
-use Rattle.matching.specs.declared.Settled.TheVariants.{Answer, Rest}
 
--- the value v, compared with k
-abbrev pub compared : Compare → List ℕ → List ℕ → Bool
-compared Equal k v = same v k
-compared ClassWord k v = has_word ascii_white k v
-compared Word k v = has_word unicode_white k v
-compared StartsWith k v = begins k v
-compared EndsWith k v = ends k v
-compared Substring k v = contains k v
+-- r tells whether the answer is a value that passes a test; R says what the test returns, and only a value with k within may pass
+abbrev pub ValueFits : (List ℕ → Bool → Type 0) → List ℕ → Answer → Bool → Type 0
+ValueFits R k held r =
+    (P : List ℕ → Bool) → ((v : List ℕ) (b : Bool) → R v b → b ≡ P v) → ((v : List ℕ) → (Within k v → ⊥) → P v ≡ false) → r ≡ valued P held
 
 -- a tag's name ends before its opening does, and that lies in the page
 abbrev pub Placed : List ℕ → Node → Type 0
 Placed p n = n.kind ≡ 1 → (n.stop < n.opened) × (n.opened ≤ length p)
 
 -- what a piece with this joiner, which fits or not, settles of its chain
-abbrev pub settled : Joiner → Bool → Settled
-settled End fits = Answer fits
-settled And fits = pick fits Rest (Answer false)
-settled Or fits = pick fits (Answer true) Rest
-settled Descendant fits = Answer false
-settled Parent fits = Answer false
+abbrev pub settled : Joiner → Bool → Option Bool
+settled End fits = Some fits
+settled And fits = pick fits None (Some false)
+settled Or fits = pick fits (Some true) None
+settled Descendant fits = Some false
+settled Parent fits = Some false

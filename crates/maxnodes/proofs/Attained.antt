@@ -1,5 +1,6 @@
 -- The page `a<>a<>` and so on has the most nodes: every three bytes are a text and a tag, one byte that is left over is a text,
 -- and two are a text and nothing.
+use Rattle.std.proofs.Common.{Ok, Err}
 use Prim.Native.Nat.{ℕ, zero, suc, ◌+◌, ◌-◌, ◌≤◌, ◌<◌, pred}
 use native.Mathlib.Numerals.{add-one}
 use native.Mathlib.Omega.{arith}
@@ -20,7 +21,6 @@ use Rattle.rules.specs.Table.{row_at}
 use Rattle.rules.specs.Reader.{Reading, put, steps, begin}
 use Rattle.rules.specs.Refusals.{page_limit, page_too_long}
 use Rattle.rules.specs.Answers.{parse_answer}
-use Rattle.rules.specs.declared.Counted.TheVariants.{Count, Refused}
 use Rattle.rules.specs.declared.Refusal.TheVariants.{PageTooLong, TableTooSmall}
 use Rattle.rules.proofs.Runs.{skip_more, skip_stop, skip_end}
 use Rattle.rules.proofs.Places.{here_in, pass_in}
@@ -188,19 +188,19 @@ module _ (white : ℕ → Bool) (void : List ℕ → Bool) (close : white 62 ≡
 
 -- what is counted are the nodes of a page that is not too long
 module _ (white : ℕ → Bool) (void : List ℕ → Bool) (p : List ℕ) where
-  read_counts : (words n : ℕ) → parse_answer white void p words ≡ Count n → (nodes_of white void p ≡ n) × (length p ≤ page_limit)
+  read_counts : (words n : ℕ) → parse_answer white void p words ≡ Ok n → (nodes_of white void p ≡ n) × (length p ≤ page_limit)
   unfolding parse_answer
   read_counts words n e = go (page_too_long p) refl (ltb words (row_at (nodes_of white void p))) e
     where
       go : (b : Bool) → page_too_long p ≡ b → (d : Bool)
-          → pick b (Refused PageTooLong) (pick d (Refused TableTooSmall) (Count (nodes_of white void p))) ≡ Count n
+          → pick b (Err PageTooLong) (pick d (Err TableTooSmall) (Ok (nodes_of white void p))) ≡ Ok n
           → (nodes_of white void p ≡ n) × (length p ≤ page_limit)
       go true q d f = let z : ◌≡◌ {A = ℕ} 0 1 = cc in absurd (omega arith)
       go false q true f = let z : ◌≡◌ {A = ℕ} 0 1 = cc in absurd (omega arith)
       go false q false f = (cc, ltb-false page_limit (length p) q)
 
   rows_enough : length p ≤ page_limit → (words : ℕ) → row_at (max_nodes (length p)) ≤ words
-      → parse_answer white void p words ≡ Count (nodes_of white void p)
+      → parse_answer white void p words ≡ Ok (nodes_of white void p)
   unfolding parse_answer
   rows_enough l words h =
       let b : nodes_of white void p ≤ max_nodes (length p) = bounded white void p in

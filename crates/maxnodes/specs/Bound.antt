@@ -1,12 +1,11 @@
--- "The fullest page" (document 02, U13): the most nodes that a page of n bytes may have, and a page that has them.
-use Rattle.std.specs.Prelude.{ℕ, zero, suc, ◌+◌, ◌*◌, ◌/◌, ◌≤◌, ◌<◌, Bool, false, ◌≡◌, List, [], ◌∷◌, length, eqb}
+-- The most nodes that a page of n bytes may have, and a page that has them.
+use Rattle.std.specs.Prelude.{ℕ, zero, suc, ◌+◌, ◌*◌, ◌/◌, ◌≤◌, ◌<◌, Bool, false, ◌≡◌, List, [], ◌∷◌, length, eqb, Ok, Err}
 use Rattle.rules.specs.Bytes.{is_white}
 use Rattle.rules.specs.Scan.{pick}
 use Rattle.rules.specs.Reader.{read}
 use Rattle.rules.specs.Table.{row_at}
 use Rattle.rules.specs.Refusals.{page_limit}
 use Rattle.rules.specs.Answers.{parse_answer}
-use Rattle.rules.specs.declared.Counted.TheVariants.{Count, Refused}
 use Rattle.rules.specs.declared.Refusal.TheVariants.{TableTooSmall}
 
 -- ---- the words of the statement
@@ -37,18 +36,18 @@ densest n = cycle 97 n
 pub record Attains (white : ℕ → Bool) (void : List ℕ → Bool) (n : ℕ) (p : List ℕ) : Type 0 where
   pub size : length p ≡ n
   pub nodes : nodes_of white void p ≡ max_nodes n
-  pub enough : (words : ℕ) → row_at (max_nodes n) ≤ words → parse_answer white void p words ≡ Count (max_nodes n)
-  pub too_few : (words : ℕ) → words < row_at (max_nodes n) → parse_answer white void p words ≡ Refused TableTooSmall
+  pub enough : (words : ℕ) → row_at (max_nodes n) ≤ words → parse_answer white void p words ≡ Ok (max_nodes n)
+  pub too_few : (words : ℕ) → words < row_at (max_nodes n) → parse_answer white void p words ≡ Err TableTooSmall
 
 -- U13, for every white and void test
 pub record NodeBound : Type 0 where
   -- no page has more nodes, and none that is read more than the longest may have
   pub bound : (white : ℕ → Bool) (void : List ℕ → Bool) (p : List ℕ) → nodes_of white void p ≤ max_nodes (length p)
-  pub most : (white : ℕ → Bool) (void : List ℕ → Bool) (p : List ℕ) (words n : ℕ) → parse_answer white void p words ≡ Count n
+  pub most : (white : ℕ → Bool) (void : List ℕ → Bool) (p : List ℕ) (words n : ℕ) → parse_answer white void p words ≡ Ok n
       → n ≤ max_nodes page_limit
   -- so many rows are enough for every page that is not too long
   pub rows : (white : ℕ → Bool) (void : List ℕ → Bool) (p : List ℕ) → length p ≤ page_limit
-      → (words : ℕ) → row_at (max_nodes (length p)) ≤ words → parse_answer white void p words ≡ Count (nodes_of white void p)
+      → (words : ℕ) → row_at (max_nodes (length p)) ≤ words → parse_answer white void p words ≡ Ok (nodes_of white void p)
   -- for each length some page has so many nodes, if `>` is not white, as with the Rust's white bytes
   pub attained : (white : ℕ → Bool) (void : List ℕ → Bool) → white 62 ≡ false
       → (n : ℕ) → n ≤ page_limit → Attains white void n (densest n)

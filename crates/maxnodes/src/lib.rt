@@ -10,12 +10,10 @@ ghost use Rattle.maxnodes.specs.Bound.{following, densest};
 fn following(b: u8) -> u8
     ensures { result ≡ following b }
 {
-    if b == b'a' {
-        b'<'
-    } else if b == b'<' {
-        b'>'
-    } else {
-        b'a'
+    match b {
+        b'a' => b'<',
+        b'<' => b'>',
+        _ => b'a',
     }
 }
 
@@ -24,10 +22,8 @@ pub fn fill(out: &mut [u8])
     ensures { out.new ≡ densest (length out.old) }
 {
     let mut b = b'a';
-    let mut i = 0;
-    while i < out.len() {
-        out[i] = b;
+    for byte in out {
+        *byte = b;
         b = following(b);
-        i += 1;
     }
 }

@@ -1,6 +1,7 @@
 -- Reading a page from its beginning: its open tags settled, its header written, and the cases of the answer.
+use Rattle.std.proofs.Common.{Option, Some, None, Result, Ok}
 use mathlib.Core.Path.{◌≡◌, refl, subst, sym, ap, ◌∙◌}
-use mathlib.Core.Bool.{Bool, true, false}
+use mathlib.Core.Bool.{Bool}
 use mathlib.Core.List.{List, ◌++◌}
 use Prim.Native.Nat.{ℕ, ◌≤◌, ◌<◌, pred}
 use native.Mathlib.Omega.{arith}
@@ -13,15 +14,13 @@ use Rattle.rules.specs.Table.{head_words, row_at, head_of, filled}
 use Rattle.rules.specs.Refusals.{Refuses, page_limit}
 use Rattle.rules.specs.Answers.{parse_answer, parsed_table, parse_table}
 use Rattle.rules.specs.declared.Refusal.TheVariants.{PageTooLong, TableTooSmall}
-use Rattle.rules.specs.declared.Counted.{Counted}
-use Rattle.rules.specs.declared.Counted.TheVariants.{Count}
 use Rattle.rules.specs.declared.State.{State}
-use Rattle.rules.specs.declared.Progress.{Progress}
 use Rattle.rules.proofs.Table.{filled_none, filled_head}
 use Rattle.laws.proofs.Tree.{last_length}
 use Rattle.tree.specs.Held.{Held, Settled}
 use Rattle.parser.specs.Parsing.{Reads, Run, Holds, Finished, Parses}
 use Rattle.parser.proofs.Readings.{good_begin, good_steps}
+use Rattle.rules.specs.declared.Refusal.{Refusal}
 
 -- ---- the beginning and the end
 
@@ -55,8 +54,8 @@ count_by white p = length (read white is_void p).nodes
 count_same : (white : ℕ → Bool) (p : List ℕ) → count_by white p ≡ length (read_by white p).nodes
 count_same white p = let R : Reading = read_by white p in last_length _ R.opens R.nodes
 
-module _ {white : ℕ → Bool} {p t t₂ : List ℕ} {r : Counted} where
-  answers : {A : Counted} → r ≡ A → parse_answer white is_void p (length t) ≡ A → t₂ ≡ parsed_table white is_void p t A → Parses white is_void p t t₂ r
+module _ {white : ℕ → Bool} {p t t₂ : List ℕ} {r : Result ℕ Refusal} where
+  answers : {A : Result ℕ Refusal} → r ≡ A → parse_answer white is_void p (length t) ≡ A → t₂ ≡ parsed_table white is_void p t A → Parses white is_void p t t₂ r
   unfolding parse_table
   answers q e w = record { answer = q ∙ sym e; table = rw e w }
 
@@ -72,30 +71,31 @@ module _ {white : ℕ → Bool} {p t t₂ : List ℕ} {r : Counted} where
     pub parses_short : length t < head_words → Refuses t TableTooSmall r t₂ → Parses white is_void p t t₂ r
     parses_short m = none (omega arith)
 
-    -- the steps ran, from t to t₁, with q at last
-    module _ (h : head_words ≤ length t) {t₁ : List ℕ} {q : Progress} (X : Run white p (length p) t start t₁ q) where
-      pub parses_full : q.room ≡ false → length t₁ ≡ length t → Refuses t₁ TableTooSmall r t₂ → Parses white is_void p t t₂ r
+    -- the steps ran, from t to t₁
+    module _ (h : head_words ≤ length t) {t₁ : List ℕ} {r₁ : Option State} (X : Run white p (length p) t start t₁ r₁) where
+      pub parses_full : r₁ ≡ None → length t₁ ≡ length t → Refuses t₁ TableTooSmall r t₂ → Parses white is_void p t t₂ r
       parses_full full e Z =
           let m = X.full t (take head_words t) begin (held_begin t h) (good_begin white p) full in
           none (rw (count_same white p) m) (record { is = Z.is; left = rw (← e) Z.left })
 
-      pub parses_read : q.room ≡ true → Finished t₁ q.state (length p) t₂ → r ≡ Count q.state.count → Parses white is_void p t t₂ r
+      pub parses_read : {q : State} → r₁ ≡ Some q → Finished t₁ q (length p) t₂ → r ≡ Ok q.count → Parses white is_void p t t₂ r
       unfolding parse_answer
-      parses_read room F a =
-          let H = X.held t (take head_words t) begin (held_begin t h) (good_begin white p) room in
-          let n : q.state.count ≡ count_by white p = H.count ∙ sym (count_same white p) in
+      parses_read {q} room F a =
+          let H = X.held t (take head_words t) begin q (held_begin t h) (good_begin white p) room in
+          let n : q.count ≡ count_by white p = H.count ∙ sym (count_same white p) in
           let fits : row_at (count_by white p) ≤ length t = rw (count_same white p) H.rows.filled.fits in
-          answers (a ∙ ap Count n) (rw (le-ltb page_limit (length p) l, le-ltb (length t) (row_at (count_by white p)) fits))
+          answers (a ∙ ap Ok n) (rw (le-ltb page_limit (length p) l, le-ltb (length t) (row_at (count_by white p)) fits))
           (F.words t (take head_words t) (read_by white p) H ∙ rw (n, H.version))
 
 -- what the steps left may be finished
-pub holds_read : {white : ℕ → Bool} {p t t₁ : List ℕ} {q : Progress} → length p ≤ page_limit → head_words ≤ length t
-    → Run white p (length p) t start t₁ q → q.room ≡ true → Holds t₁ q.state
-holds_read {white} {p} {t} l h X room =
-    let H = X.held t (take head_words t) begin (held_begin t h) (good_begin white p) room in
+pub holds_read : {white : ℕ → Bool} {p t t₁ : List ℕ} {r : Option State} {q : State} → length p ≤ page_limit → head_words ≤ length t
+    → Run white p (length p) t start t₁ r → r ≡ Some q → Holds t₁ q
+holds_read {white} {p} {t} {q = q} l h X room =
+    let H = X.held t (take head_words t) begin q (held_begin t h) (good_begin white p) room in
     let G = good_steps white p (length p) (good_begin white p) in
     record { t = t; hd = take head_words t; R = read_by white p; held = H; few = omega (arith, H.count, G.few, G.within) }
 
--- by marks whose white is document 01's
-pub parses_white : {white : ℕ → Bool} {p t t₂ : List ℕ} {r : Counted} → white ≡ is_white → Parses white is_void p t t₂ r → Parses is_white is_void p t t₂ r
+-- by marks whose white is tl's
+pub parses_white : {white : ℕ → Bool} {p t t₂ : List ℕ} {r : Result ℕ Refusal} → white ≡ is_white → Parses white is_void p t t₂ r
+    → Parses is_white is_void p t t₂ r
 parses_white {p = p} {t = t} {t₂ = t₂} {r = r} e P = subst (λ (w : ℕ → Bool). Parses w is_void p t t₂ r) e P

@@ -1,6 +1,7 @@
 -- The loop over the steps: whatever reading was held at first, what is held now has the rest of the steps left.
-use mathlib.Core.Path.{◌≡◌, refl, ap, sym, ◌∙◌}
-use mathlib.Core.Bool.{Bool, true, false, true≢false, false≢true}
+use Rattle.std.proofs.Common.{Option, Some, None}
+use mathlib.Core.Path.{◌≡◌, refl, ap, ◌∙◌}
+use mathlib.Core.Bool.{Bool}
 use mathlib.Core.List.{List}
 use Prim.Native.Nat.{ℕ, suc, ◌-◌, ◌≤◌, ◌<◌}
 use native.Mathlib.Omega.{arith}
@@ -10,7 +11,6 @@ use Rattle.rules.specs.Lexer.{item_at}
 use Rattle.rules.specs.Reader.{Reading, put, steps}
 use Rattle.rules.specs.declared.Item.{Item}
 use Rattle.rules.specs.declared.State.{State}
-use Rattle.rules.specs.declared.Progress.{Progress}
 use Rattle.laws.proofs.Lockstep.{later, steps_done, step_on}
 use Rattle.tree.specs.Held.{Held, Step}
 use Rattle.parser.specs.Parsing.{Good, Run}
@@ -35,23 +35,23 @@ module _ {white : ℕ → Bool} {p : List ℕ} {n k : ℕ} {t₀ t₁ : List ℕ
   -- ---- no step is left, or no byte
 
   run_done : ((t hd : List ℕ) (R₀ : Reading) (C : Came white p n k t₁ t hd s R₀) → steps white is_void p k C.R ≡ C.R)
-      → Run white p n t₀ s₀ t₁ (record { room = true; state = s })
+      → Run white p n t₀ s₀ t₁ (Some s)
   run_done f =
       record {
-        held = λ t hd R H G e. let C = A.came t hd R H G in rw (C.rest, f t hd R C) C.held;
-        full = λ t hd R H G e. absurd (true≢false e);
+        held = λ t hd R s₂ H G e. let C = A.came t hd R H G in let same : s ≡ s₂ = cc in rw (C.rest, f t hd R C, ← same) C.held;
+        full = λ t hd R H G e. let z : ◌≡◌ {A = ℕ} 0 1 = cc in absurd (omega arith);
       }
 
-  pub run_ended : length p ≤ s.at → Run white p n t₀ s₀ t₁ (record { room = true; state = s })
+  pub run_ended : length p ≤ s.at → Run white p n t₀ s₀ t₁ (Some s)
   run_ended l = run_done (λ t hd R C. steps_done white is_void k p C.R (omega (arith, C.held.at)))
 
-  pub run_last : k ≡ 0 → Run white p n t₀ s₀ t₁ (record { room = true; state = s })
+  pub run_last : k ≡ 0 → Run white p n t₀ s₀ t₁ (Some s)
   unfolding steps
   run_last z = run_done (λ t hd R C. rw z)
 
   -- ---- one step more, which puts the item i
 
-  module _ (some : 0 < k) (l : s.at < length p) {t₂ : List ℕ} {r : Progress} {i : Item} (e : i ≡ item_at white p s.at)
+  module _ (some : 0 < k) (l : s.at < length p) {t₂ : List ℕ} {r : Option State} {i : Item} (e : i ≡ item_at white p s.at)
       (S : Step (λ (R : Reading). put is_void p R i) t₁ s t₂ r) where
     on : {t hd : List ℕ} {R₀ : Reading} (C : Came white p n k t₁ t hd s R₀)
         → steps white is_void p n R₀ ≡ steps white is_void p (k - 1) (put is_void p C.R i)
@@ -60,18 +60,18 @@ module _ {white : ℕ → Bool} {p : List ℕ} {n k : ℕ} {t₀ t₁ : List ℕ
         let at : s.at ≡ C.R.at = C.held.at in
         C.rest ∙ ap (λ (m : ℕ). steps white is_void p m C.R) one ∙ step_on white is_void (k - 1) p C.R (omega arith) ∙ rw (e, at)
 
-    pub run_full : r.room ≡ false → Run white p n t₀ s₀ t₂ r
+    pub run_full : r ≡ None → Run white p n t₀ s₀ t₂ None
     run_full full =
         record {
-          held = λ t hd R H G y. absurd (false≢true (sym full ∙ y));
+          held = λ t hd R s₂ H G y. let z : ◌≡◌ {A = ℕ} 0 1 = cc in absurd (omega arith);
           full = λ t hd R H G y.
               let C = A.came t hd R H G in
               let more = (later white is_void (k - 1) p 0 (put is_void p C.R i) (omega arith)).longer in
               rw (on C) (omega (arith, S.full t hd C.R C.held full, A.size, more));
         }
 
-    pub along_on : r.room ≡ true → length t₂ ≡ length t₁ → Along white p n t₀ s₀ t₂ r.state (k - 1)
-    along_on room same =
+    pub along_on : {q : State} → r ≡ Some q → length t₂ ≡ length t₁ → Along white p n t₀ s₀ t₂ q (k - 1)
+    along_on {q} room same =
         record {
           size = same ∙ A.size;
           came = λ t hd R H G.
@@ -79,7 +79,7 @@ module _ {white : ℕ → Bool} {p : List ℕ} {n k : ℕ} {t₀ t₁ : List ℕ
               let at : s.at ≡ C.R.at = C.held.at in
               record {
                 R = put is_void p C.R i;
-                held = S.held t hd C.R C.held room;
+                held = S.held t hd C.R q C.held room;
                 good = rw (e, at) (good_step white p C.good (omega arith));
                 rest = on C;
               };

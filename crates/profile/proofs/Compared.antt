@@ -79,13 +79,6 @@ part_runs p a q c n l m =
     sym (run_same p a q c n (part p a (a + n)) (part q c (c + n)) (part_length p a (a + n) l ∙ omega arith) (part_length q c (c + n) m ∙ omega arith)
     (λ j h. part_byte p a (a + n) j (omega arith)) (λ j h. part_byte q c (c + n) j (omega arith)))
 
--- the whole of two lists
-pub whole : (x y : List ℕ) (n : ℕ) → length x ≡ n → length y ≡ n → same_run x 0 y 0 n ≡ true → x ≡ y
-whole x y n lx ly e = same_is x y (sym (run_same x 0 y 0 n x y lx ly (at x) (at y)) ∙ e)
-  where
-    at : (z : List ℕ) (j : ℕ) → j < n → get_or z j 0 ≡ get_or z (0 + j) 0
-    at z j l = let o : 0 + j ≡ j = omega arith in rw o
-
 module _ (q : List ℕ) (size : length q ≡ 392) (i : ℕ) (b : i < 24) where
   pub name_short : length (name_of q i) ≤ 16
   unfolding name_of

@@ -1,13 +1,7 @@
--- What is made of a profile once a call, and lent down: the marks, and where to look for a name.
+-- What is made of a profile once a call, and lent down: where to look for a name.
 use Rattle.std.specs.Prelude.{◌≡◌, Bool, true, List, ℕ, suc, ◌+◌, ◌*◌, ◌-◌, ◌%◌, ◌≤◌, ◌<◌, eqb, length, get_or}
 use Rattle.rules.specs.Sound.{all}
-use Rattle.rules.specs.Profile.{white_of, name_of, profile_fine, tl_profile}
-use Rattle.scan.specs.Marks.{Marked, white_in}
-
--- t is the table of marks with the white bytes of q
-pub record MarksFor (q t : List ℕ) : Type 0 where
-  pub marked : Marked t
-  pub white : white_in t ≡ white_of q
+use Rattle.rules.specs.Profile.{name_of, profile_fine, tl_profile}
 
 -- k bytes of p from a on are those of q from c on
 abbrev pub same_run : List ℕ → ℕ → List ℕ → ℕ → ℕ → Bool

@@ -5,8 +5,14 @@
 ghost use Rattle.std.specs.Prelude.{◌≡◌, true, ◌+◌, ◌≤◌, ◌<◌, length};
 ghost use Rattle.rules.specs.Bytes.{is_ident};
 ghost use Rattle.rules.specs.Scan.{part, same};
-ghost use Rattle.rules.specs.Profile.{limit_of, name_of, void_of, name_fine, numbers_fine, profile_fine, tl_profile};
-ghost use Rattle.profile.specs.Made.{MarksFor, same_run, slot_by, Filled, Listed, Heads};
+ghost use Rattle.rules.specs.Profile.{limit_of, white_of, name_of, void_of, name_fine, numbers_fine, profile_fine, tl_profile};
+ghost use Rattle.scan.specs.Marks.{white_in};
+ghost use Rattle.profile.specs.Made.{same_run, slot_by, Filled, Listed, Heads};
+
+use scan::Marks;
+
+// Where the four white bytes are.
+const WHITE: usize = 4;
 
 // Void names in a profile, where the first starts, and the bytes of a place.
 const NAMES: usize = 24;
@@ -61,36 +67,27 @@ pub fn tl() -> [u8; 392]
     TL
 }
 
-fn wide(x: u8) -> usize
-    ensures { (result ≡ x) × (result < 256) }
-{
-    x as usize
-}
-
 // The longest page that is read.
 pub fn limit(profile: &[u8; 392]) -> usize
     ensures { result ≡ limit_of profile.now }
 {
-    wide(profile[0])
-        + 256 * wide(profile[1])
-        + 65536 * wide(profile[2])
-        + 16777216 * wide(profile[3])
+    u32::from_le_bytes([profile[0], profile[1], profile[2], profile[3]]) as usize
 }
 
 // ---- the test of a profile
 
-// By comparisons and not by the marks, so that 16 bytes are tested at once.
+// By comparisons, so that 16 bytes are tested at once: `matches!` makes branches, and the test of a profile a third slower.
 fn is_ident(b: u8) -> bool
     ensures { result ≡ is_ident b }
 {
-    ((48 <= b) & (b <= 57))
-        | ((65 <= b) & (b <= 90))
-        | ((97 <= b) & (b <= 122))
-        | (b == 45)
-        | (b == 95)
-        | (b == 58)
-        | (b == 43)
-        | (b == 47)
+    ((b'0' <= b) & (b <= b'9'))
+        | ((b'A' <= b) & (b <= b'Z'))
+        | ((b'a' <= b) & (b <= b'z'))
+        | (b == b'-')
+        | (b == b'_')
+        | (b == b':')
+        | (b == b'+')
+        | (b == b'/')
 }
 
 // Whether name i is identifier bytes and then zeros. It has no early exit.
@@ -100,12 +97,10 @@ fn name_fine(profile: &[u8; 392], i: usize) -> bool
 {
     let a = FIRST + PLACE * i;
     let mut ok = true;
-    let mut j = 0;
-    while j < PLACE {
+    for j in 0..PLACE {
         let b = profile[a + j];
         let before = profile[a + j - 1];
-        ok = ok & ((b == 0) | (is_ident(b) & ((j == 0) | (before != 0))));
-        j += 1;
+        ok &= (b == 0) | (is_ident(b) & ((j == 0) | (before != 0)));
     }
     ok
 }
@@ -125,24 +120,8 @@ fn all_fine(profile: &[u8; 392]) -> bool
     ensures { result ≡ profile_fine profile.now }
 {
     let mut ok = numbers_fine(profile);
-    let mut i = 0;
-    while i < NAMES {
-        ok = ok & name_fine(profile, i);
-        i += 1;
-    }
-    ok
-}
-
-// Whether k bytes from a on are those from c on. It has no early exit, so that they are compared at once.
-fn is_run(p: &[u8], a: usize, q: &[u8], c: usize, k: usize) -> bool
-    requires { (a + k ≤ length p.now) × (c + k ≤ length q.now) }
-    ensures { result ≡ same_run p.now a q.now c k }
-{
-    let mut ok = true;
-    let mut j = 0;
-    while j < k {
-        ok = ok & (p[a + j] == q[c + j]);
-        j += 1;
+    for i in 0..NAMES {
+        ok &= name_fine(profile, i);
     }
     ok
 }
@@ -151,36 +130,31 @@ fn is_run(p: &[u8], a: usize, q: &[u8], c: usize, k: usize) -> bool
 fn is_tl(profile: &[u8; 392]) -> bool
     ensures { result ≡ true → profile.now ≡ tl_profile }
 {
-    let t = tl();
-    is_run(profile, 0, &t, 0, 392)
+    *profile == TL
 }
 
 // Whether the profile is within its limits; if not, it is refused as 14. tl's own costs a comparison alone.
 pub fn is_fine(profile: &[u8; 392]) -> bool
     ensures { result ≡ profile_fine profile.now }
 {
-    if is_tl(profile) {
-        return true;
-    }
-    all_fine(profile)
+    is_tl(profile) || all_fine(profile)
 }
 
 // ---- what is white
 
 // The marks with the profile's white bytes in place of tl's.
-pub fn mark_table(profile: &[u8; 392]) -> [u8; 256]
+pub fn mark_table(profile: &[u8; 392]) -> Marks
     requires { profile_fine profile.now ≡ true }
-    ensures { MarksFor profile.now result }
+    ensures { white_in result ≡ white_of profile.now }
 {
-    let mut t = scan::mark_table();
-    t[10] = 0;
-    t[32] = 0;
-    t[wide(profile[4])] = 2;
-    t[wide(profile[5])] = 2;
-    t[wide(profile[6])] = 2;
-    t[wide(profile[7])] = 2;
+    let mut t = Marks::new();
+    t.set_white(b'\n', false);
+    t.set_white(b' ', false);
+    for k in 0..4 {
+        t.set_white(profile[WHITE + k], true);
+    }
     // An unused place holds 0, and byte 0 is not white for that.
-    t[0] = 0;
+    t.set_white(0, false);
     t
 }
 
@@ -190,7 +164,7 @@ pub fn mark_table(profile: &[u8; 392]) -> [u8; 256]
 fn slot(first: u8, last: u8, n: usize) -> usize
     ensures { (result ≡ slot_by first last n) × (result < 256) }
 {
-    (9 * wide(first) + wide(last) + 5 * (n % 256)) % 256
+    (9 * usize::from(first) + usize::from(last) + 5 * (n % 256)) % 256
 }
 
 // How many bytes name i has.
@@ -199,14 +173,12 @@ fn name_len(profile: &[u8], i: usize) -> usize
     ensures { (result ≡ length (name_of profile.now i)) × (result ≤ 16) }
 {
     let a = FIRST + PLACE * i;
-    let mut n = 0;
-    while n < PLACE {
+    for n in 0..PLACE {
         if profile[a + n] == 0 {
             return n;
         }
-        n += 1;
     }
-    n
+    PLACE
 }
 
 // Puts name i, if there is one, before the others of its slot.
@@ -214,7 +186,7 @@ fn put_name(profile: &[u8; 392], i: u8, t: &mut [u8; 305])
     requires { (i < 24) × (profile_fine profile.now ≡ true) × Filled profile.now t.old i }
     ensures { Filled profile.now t.new (i + 1) }
 {
-    let k = wide(i);
+    let k = usize::from(i);
     let n = name_len(profile, k);
     t[LENGTHS + k] = n as u8;
     if n == 0 {
@@ -237,12 +209,23 @@ pub fn heads(profile: &[u8; 392]) -> [u8; 305]
         t[FIXED] = 1;
         return t;
     }
-    let mut i: u8 = 0;
-    while i < 24 {
+    for i in 0..24 {
         put_name(profile, i, &mut t);
-        i += 1;
     }
     t
+}
+
+// Whether k bytes from a on are those from c on. It has no early exit, so that they are compared at once. Not `==` or a chain: with
+// those the comparison of a void name of 4 to 8 bytes takes twice as long and more.
+fn is_run(p: &[u8], a: usize, q: &[u8], c: usize, k: usize) -> bool
+    requires { (a + k ≤ length p.now) × (c + k ≤ length q.now) }
+    ensures { result ≡ same_run p.now a q.now c k }
+{
+    let mut ok = true;
+    for j in 0..k {
+        ok &= p[a + j] == q[c + j];
+    }
+    ok
 }
 
 // Whether n bytes from a on are those from c on: the first k and the last m of them, which may overlap.
@@ -298,13 +281,13 @@ fn is_listed(profile: &[u8; 392], heads: &[u8; 305], page: &[u8], a: usize, e: u
         return false;
     }
     let s = slot(page[a], page[e - 1], e - a);
-    let mut i = wide(heads[s]);
+    let mut i = usize::from(heads[s]);
     while 0 < i {
-        let m = wide(heads[LENGTHS + i - 1]);
+        let m = usize::from(heads[LENGTHS + i - 1]);
         if is_name(profile, i - 1, m, page, a, e) {
             return true;
         }
-        i = wide(heads[LINKS + i - 1]);
+        i = usize::from(heads[LINKS + i - 1]);
     }
     false
 }

@@ -1,9 +1,9 @@
 -- The chain at a place, one step at a time and with no bound on the pieces. Reading goes forward, so that a chain has no more pieces
 -- than bytes are left, and further steps than that change nothing.
+use Rattle.std.proofs.Common.{Option, Some, None}
 use mathlib.Core.Path.{◌≡◌, refl, sym, ap, subst, ◌∙◌}
 use mathlib.Core.Bool.{Bool}
 use mathlib.Core.List.{List, [], ◌∷◌}
-use mathlib.Core.Option.{Option, none, some}
 use Prim.Native.Nat.{ℕ, zero, suc, ◌+◌, ◌-◌, ◌≤◌, ◌<◌}
 use native.Mathlib.Numerals.{add-one}
 use native.Mathlib.Omega.{arith}
@@ -18,8 +18,6 @@ use Rattle.rules.specs.declared.Simple.{Simple}
 use Rattle.rules.specs.declared.Joiner.TheVariants.{End}
 use Rattle.rules.specs.declared.Piece.{Piece}
 use Rattle.rules.specs.declared.Join.{Join}
-use Rattle.rules.specs.declared.Read.{Read}
-use Rattle.rules.specs.declared.Read.TheVariants.{Found, NotFound}
 use Rattle.rules.proofs.Runs.{skip_ge}
 use Rattle.rules.proofs.Places.{Read as ReadAt}
 use Rattle.rules.proofs.Pick.{cases}
@@ -48,9 +46,9 @@ joined_after s k m b j R e = subst (After m) (join_byte s k m b R ∙ sym e) (jo
 module _ (rest : ℕ → Option (List Piece)) (s : List ℕ) (x : Simple) (k : ℕ) where
   -- where t says that the spaces do not end the selector
   abbrev joined_where : Bool → Join → Option (List Piece)
-  joined_where t j = pick t (before (piece x j.joiner) (rest j.next)) (some (piece x End ∷ []))
+  joined_where t j = pick t (before (piece x j.joiner) (rest j.next)) (Some (piece x End ∷ []))
 
-  pub combinator_end : length s ≤ spaces_end s k → combinator_at rest s x k ≡ some (piece x End ∷ [])
+  pub combinator_end : length s ≤ spaces_end s k → combinator_at rest s x k ≡ Some (piece x End ∷ [])
   combinator_end l = ap (λ (t : Bool). joined_where t (join_at s k (spaces_end s k))) (le-ltb (spaces_end s k) (length s) l)
 
   pub combinator_join : (b : ℕ) (j : Join) → ReadAt s (spaces_end s k) b → j ≡ join_by b k (spaces_end s k)
@@ -67,26 +65,26 @@ combinator_same f g s x k h =
     let j : Join = join_at s k (spaces_end s k) in
     let far : k ≤ j.next = omega (arith, join_after s k (spaces_end s k), skip_ge (is 32) s k) in
     let t : Bool = ltb (spaces_end s k) (length s) in
-    ap (λ (o : Option (List Piece)). pick t (before (piece x j.joiner) o) (some (piece x End ∷ []))) (h j.next far)
+    ap (λ (o : Option (List Piece)). pick t (before (piece x j.joiner) o) (Some (piece x End ∷ []))) (h j.next far)
 
 selector_same : (f g : ℕ → Option (List Piece)) (s : List ℕ) (i : ℕ) → ((m : ℕ) → i < m → f m ≡ g m)
     → selector_of f s (simple_at s i) ≡ selector_of g s (simple_at s i)
 selector_same f g s i h = go (simple_at s i) (simple_ahead s i)
   where
-    go : (r : Read) → Ahead i (length s) r → selector_of f s r ≡ selector_of g s r
-    go (Found x k) a = combinator_same f g s x k (λ m l. h m (omega arith))
-    go NotFound a = refl
+    go : (r : Option (Simple × ℕ)) → Ahead i (length s) r → selector_of f s r ≡ selector_of g s r
+    go (Some (x, k)) a = combinator_same f g s x k (λ m l. h m (omega arith))
+    go None a = refl
 
 -- ---- with enough steps, more make no difference
 
-none_at : (n : ℕ) (s : List ℕ) (i : ℕ) → length s ≤ i → selector_at n s i ≡ none
+none_at : (n : ℕ) (s : List ℕ) (i : ℕ) → length s ≤ i → selector_at n s i ≡ None
 unfolding selector_at
 none_at zero s i h = refl
 none_at (suc n) s i h = go (simple_at s (spaces_end s i)) (simple_ahead s (spaces_end s i))
   where
-    go : (r : Read) → Ahead (spaces_end s i) (length s) r → selector_of (selector_at n s) s r ≡ none
-    go (Found x k) a = absurd (omega (arith, skip_ge (is 32) s i))
-    go NotFound a = refl
+    go : (r : Option (Simple × ℕ)) → Ahead (spaces_end s i) (length s) r → selector_of (selector_at n s) s r ≡ None
+    go (Some (x, k)) a = absurd (omega (arith, skip_ge (is 32) s i))
+    go None a = refl
 
 enough : (n m : ℕ) (s : List ℕ) (i : ℕ) → length s - i ≤ n → length s - i ≤ m → selector_at n s i ≡ selector_at m s i
 unfolding selector_at
@@ -106,25 +104,25 @@ chain_step s i =
 -- ---- no more pieces than bytes are left
 
 abbrev Short : ℕ → Option (List Piece) → Type 0
-Short n none = Unit {0}
-Short n (some ps) = length ps ≤ n
+Short n None = Unit {0}
+Short n (Some ps) = length ps ≤ n
 
 short_before : (n : ℕ) (p : Piece) (o : Option (List Piece)) → Short n o → Short (suc n) (before p o)
-short_before n p none h = tt
-short_before n p (some ps) h = omega arith
+short_before n p None h = tt
+short_before n p (Some ps) h = omega arith
 
 short : (n : ℕ) (s : List ℕ) (i : ℕ) → Short n (selector_at n s i)
 unfolding selector_at
 short zero s i = tt
 short (suc n) s i = go (λ m. short n s m) (simple_at s (spaces_end s i))
   where
-    go : ((m : ℕ) → Short n (selector_at n s m)) → (r : Read) → Short (suc n) (selector_of (selector_at n s) s r)
-    go f (Found x k) =
+    go : ((m : ℕ) → Short n (selector_at n s m)) → (r : Option (Simple × ℕ)) → Short (suc n) (selector_of (selector_at n s) s r)
+    go f (Some (x, k)) =
         let j : Join = join_at s k (spaces_end s k) in
         cases (Short (suc n)) (ltb (spaces_end s k) (length s))
         (λ _. short_before n (piece x j.joiner) (selector_at n s j.next) (f j.next)) (λ _. omega arith)
-    go f NotFound = tt
+    go f None = tt
 
-pub chain_length : (s : List ℕ) (i : ℕ) (ps : List Piece) → chain_at s i ≡ some ps → length ps ≤ length s - i
+pub chain_length : (s : List ℕ) (i : ℕ) (ps : List Piece) → chain_at s i ≡ Some ps → length ps ≤ length s - i
 unfolding chain_at
 chain_length s i ps e = subst (Short (length s - i)) e (short (length s - i) s i)

@@ -1,7 +1,7 @@
 -- The lent words when a chain has been read: a piece before the rest of its chain; and what is known of a selector that was read.
+use Rattle.std.proofs.Common.{Option, Some, None}
 use mathlib.Core.Path.{◌≡◌, refl, sym, ap, ◌∙◌}
 use mathlib.Core.List.{List, ◌∷◌, ◌++◌, append_assoc}
-use mathlib.Core.Option.{Option, none, some}
 use Prim.Native.Nat.{ℕ, suc, ◌+◌, ◌*◌, ◌≤◌, ◌<◌}
 use native.Mathlib.Nat.{zero-add}
 use native.Mathlib.Numerals.{add-one}
@@ -12,30 +12,28 @@ use Rattle.rules.specs.Chain.{simple_words, written, read_selector}
 use Rattle.rules.specs.declared.Piece.{Piece}
 use Rattle.piece.specs.Words.{piece_words, pieces_from}
 use Rattle.piece.proofs.Back.{words_length, written_length, pieces_back}
-use Rattle.queryselector.specs.declared.Chain.{Chain}
-use Rattle.queryselector.specs.declared.Chain.TheVariants.{Pieces, Refused}
 use Rattle.queryselector.specs.Chains.{count_of, written_in, Chained}
 use Rattle.queryselector.proofs.Steps.{chain_length}
 
 -- ---- what an answer says of a chain
 
-pub was_refused : (o : Option (List Piece)) → Refused ≡ count_of o → o ≡ none
-was_refused none e = refl
-was_refused (some ps) e = cc
+pub was_refused : (o : Option (List Piece)) → None ≡ count_of o → o ≡ None
+was_refused None e = refl
+was_refused (Some ps) e = cc
 
 pub record Counts (o : Option (List Piece)) (n : ℕ) : Type 0 where
   pub pieces : List Piece
-  pub read : o ≡ some pieces
+  pub read : o ≡ Some pieces
   pub count : n ≡ length pieces
 
-pub was_pieces : (n : ℕ) (o : Option (List Piece)) → Pieces n ≡ count_of o → Counts o n
-was_pieces n none e = absurd (let z : ◌≡◌ {A = ℕ} 0 1 = cc in omega arith)
-was_pieces n (some ps) e = record { pieces = ps; read = refl; count = cc }
+pub was_pieces : (n : ℕ) (o : Option (List Piece)) → Some n ≡ count_of o → Counts o n
+was_pieces n None e = absurd (let z : ◌≡◌ {A = ℕ} 0 1 = cc in omega arith)
+was_pieces n (Some ps) e = record { pieces = ps; read = refl; count = cc }
 
 -- ---- the words of a piece, and then those of the rest of its chain
 
 pub more_written : (p : Piece) (ps : List Piece) (out : List ℕ)
-    → simple_words p.simple p.joiner ++ (written ps ++ drop (length (written ps)) (drop piece_words out)) ≡ written_in out (some (p ∷ ps))
+    → simple_words p.simple p.joiner ++ (written ps ++ drop (length (written ps)) (drop piece_words out)) ≡ written_in out (Some (p ∷ ps))
 unfolding written
 more_written p ps out =
     let row : List ℕ = simple_words p.simple p.joiner in
@@ -47,13 +45,13 @@ more_written p ps out =
 
 pub record Parsed (s words : List ℕ) (n : ℕ) : Type 0 where
   pub pieces : List Piece
-  pub read : read_selector s ≡ some pieces
+  pub read : read_selector s ≡ Some pieces
   pub count : n ≡ length pieces
   pub few : n ≤ length s
   pub form : take (piece_words * n) words ≡ written pieces
   pub back : pieces_from n words 0 ≡ pieces
 
-parsed_as : (s words words₁ : List ℕ) (ps : List Piece) (n : ℕ) → read_selector s ≡ some ps → n ≡ length ps → words₁ ≡ written_in words (some ps)
+parsed_as : (s words words₁ : List ℕ) (ps : List Piece) (n : ℕ) → read_selector s ≡ Some ps → n ≡ length ps → words₁ ≡ written_in words (Some ps)
     → Parsed s words₁ n
 parsed_as s words words₁ ps n e c w =
     record {
@@ -65,11 +63,11 @@ parsed_as s words words₁ ps n e c w =
       back = rw (w, c) (pieces_back ps (drop (length (written ps)) words));
     }
 
-module _ (s words words₁ : List ℕ) (r : Chain) (h : Chained (read_selector s) words words₁ r) where
-  pub unread : r ≡ Refused → read_selector s ≡ none
+module _ (s words words₁ : List ℕ) (r : Option ℕ) (h : Chained (read_selector s) words words₁ r) where
+  pub unread : r ≡ None → read_selector s ≡ None
   unread a = was_refused (read_selector s) (sym a ∙ h.answer)
 
-  pub parsed : (n : ℕ) → r ≡ Pieces n → Parsed s words₁ n
+  pub parsed : (n : ℕ) → r ≡ Some n → Parsed s words₁ n
   parsed n a =
       let c = was_pieces n (read_selector s) (sym a ∙ h.answer) in
       parsed_as s words words₁ c.pieces n c.read c.count (h.words ∙ ap (written_in words) c.read)

@@ -1,18 +1,15 @@
 -- What the functions that read a chain ask for and promise.
-use Rattle.std.specs.Prelude.{ℕ, ◌+◌, ◌-◌, ◌*◌, ◌≤◌, ◌≡◌, List, ◌++◌, ltb, length, drop}
-use Rattle.std.proofs.Math.Option.{Option, none, some}
+use Rattle.std.specs.Prelude.{ℕ, ◌+◌, ◌-◌, ◌*◌, ◌≤◌, ◌≡◌, List, ◌++◌, ltb, length, drop, Option, Some, None, Result}
 use Rattle.rules.specs.Bytes.{is}
 use Rattle.rules.specs.Scan.{pick}
 use Rattle.rules.specs.Chain.{join, written}
 use Rattle.rules.specs.Answers.{selector_answer, selector_buffer}
-use Rattle.rules.specs.declared.Counted.{Counted}
 use Rattle.rules.specs.declared.Joiner.TheVariants.{And, Or, Descendant, Parent}
 use Rattle.rules.specs.declared.Piece.{Piece}
 use Rattle.rules.specs.declared.Join.{Join}
 use Rattle.piece.specs.Words.{piece_words}
 use Rattle.selector.specs.Within.{Within}
-use Rattle.queryselector.specs.declared.Chain.{Chain}
-use Rattle.queryselector.specs.declared.Chain.TheVariants.{Pieces, Refused}
+use Rattle.rules.specs.declared.Refusal.{Refusal}
 
 -- `join_at` by the byte at m
 abbrev pub join_by : ℕ → ℕ → ℕ → Join
@@ -24,21 +21,21 @@ pub record Room (n : ℕ) (s : List ℕ) (at : ℕ) (out : List ℕ) : Type 0 wh
   pub words : piece_words * (n + (length s - at)) ≤ length out
 
 -- how many pieces a chain has, that was read or not
-abbrev pub count_of : Option (List Piece) → Chain
-count_of none = Refused
-count_of (some ps) = Pieces (length ps)
+abbrev pub count_of : Option (List Piece) → Option ℕ
+count_of None = None
+count_of (Some ps) = Some (length ps)
 
 -- the chain in the first words of `out`, and the rest as it was
 abbrev pub written_in : List ℕ → Option (List Piece) → List ℕ
-written_in out none = out
-written_in out (some ps) = written ps ++ drop (length (written ps)) out
+written_in out None = out
+written_in out (Some ps) = written ps ++ drop (length (written ps)) out
 
 -- the answer r for a chain, and the lent words at entry and at exit
-pub record Chained (chain : Option (List Piece)) (out out₁ : List ℕ) (r : Chain) : Type 0 where
+pub record Chained (chain : Option (List Piece)) (out out₁ : List ℕ) (r : Option ℕ) : Type 0 where
   pub answer : r ≡ count_of chain
   pub words : out₁ ≡ written_in out chain
 
 -- the public call's answer, and the lent words at entry and at exit
-pub record Answered (s out out₁ : List ℕ) (r : Counted) : Type 0 where
+pub record Answered (s out out₁ : List ℕ) (r : Result ℕ Refusal) : Type 0 where
   pub answer : r ≡ selector_answer s (length out)
   pub buffer : out₁ ≡ selector_buffer s out

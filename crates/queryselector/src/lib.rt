@@ -6,23 +6,16 @@
 ghost use Rattle.std.specs.Prelude.{◌≡◌, ◌++◌, ◌<◌, ◌≤◌, length, take, drop, replicate};
 ghost use Rattle.rules.specs.Chain.{combinator_at, chain_at, read_selector};
 ghost use Rattle.rules.specs.Refusals.{selector_limit};
-ghost use Rattle.scan.specs.Marks.{Marked};
 ghost use Rattle.queryselector.specs.Chains.{join_by, Room, Chained, Answered};
 
 use piece::WORDS;
-use rules::{Counted, Current, Join, Joiner, Piece, Read, Refusal, Simple};
+use rules::{Join, Joiner, Piece, Refusal, Simple};
+use scan::Marks;
 
 // The longest selector, and the words that the chain of such a one can take: a piece for each byte.
 pub const LIMIT: usize = 128;
 
 pub const ROOM: usize = 768;
-
-// How many pieces were read, or that the selector is refused.
-#[derive(Clone, Copy)]
-pub enum Chain {
-    Pieces(usize),
-    Refused,
-}
 
 // The joiner that the byte tok stands for after the spaces from `from` to `at`, and where the rest starts.
 fn join_of(tok: u8, from: usize, at: usize) -> Join
@@ -56,25 +49,23 @@ fn join_of(tok: u8, from: usize, at: usize) -> Join
 
 // The chain from a place on, into the first words of `out`.
 #[cycle(parse_combinator_selector)]
-fn selector(t: &[u8; 256], s: &[u8], at: usize, out: &mut [u32]) -> Chain
-    requires { Marked t.now × Room 0 s.now at out.old }
+fn selector(t: &Marks, s: &[u8], at: usize, out: &mut [u32]) -> Option<usize>
+    requires { Room 0 s.now at out.old }
     ensures { Chained (chain_at s.now at) out.old out.new result }
 {
     let from = selector::skip_whitespaces(s, at);
-    let Read::Found(left, next) = selector::parse_simple(t, s, from) else {
-        return Chain::Refused;
-    };
+    let (left, next) = selector::parse_simple(t, s, from)?;
     parse_combinator(t, s, next, left, out)
 }
 
 // The chain that starts with `left`, whose joiner and rest are read from a place on. A piece is written when the rest has been read.
 #[cycle(parse_combinator_selector)]
-fn parse_combinator(t: &[u8; 256], s: &[u8], at: usize, left: Simple, out: &mut [u32]) -> Chain
-    requires { Marked t.now × Room 1 s.now at out.old }
+fn parse_combinator(t: &Marks, s: &[u8], at: usize, left: Simple, out: &mut [u32]) -> Option<usize>
+    requires { Room 1 s.now at out.old }
     ensures { Chained (combinator_at (chain_at s.now) s.now left at) out.old out.new result }
 {
     let place = selector::skip_whitespaces(s, at);
-    let Current::Byte(tok) = scan::current_cpy(s, place) else {
+    let Some(tok) = scan::current_cpy(s, place) else {
         piece::put_piece(
             out,
             Piece {
@@ -82,12 +73,10 @@ fn parse_combinator(t: &[u8; 256], s: &[u8], at: usize, left: Simple, out: &mut 
                 joiner: Joiner::End,
             },
         );
-        return Chain::Pieces(1);
+        return Some(1);
     };
     let join = join_of(tok, at, place);
-    let Chain::Pieces(rest) = selector(t, s, join.next, &mut out[WORDS..]) else {
-        return Chain::Refused;
-    };
+    let rest = selector(t, s, join.next, &mut out[WORDS..])?;
     let joiner = join.joiner;
     piece::put_piece(
         out,
@@ -96,7 +85,7 @@ fn parse_combinator(t: &[u8; 256], s: &[u8], at: usize, left: Simple, out: &mut 
             joiner,
         },
     );
-    Chain::Pieces(rest + 1)
+    Some(rest + 1)
 }
 
 // A slice and a place in it. The functions over it are thin, and leave the work to those above.
@@ -113,56 +102,37 @@ pub fn new<'a>(data: &'a [u8]) -> Stream<'a>
 }
 
 // The chain from the stream's place on.
-fn chain_of<'a, 'b, 'c>(t: &'a [u8; 256], st: Stream<'b>, out: &'c mut [u32]) -> Chain
-    requires { Marked t.now × Room 0 st.«data».now st.idx out.old }
+fn chain_of<'a, 'b, 'c>(t: &'a Marks, st: Stream<'b>, out: &'c mut [u32]) -> Option<usize>
+    requires { Room 0 st.«data».now st.idx out.old }
     ensures { Chained (chain_at st.entry.«data».now st.entry.idx) out.old out.new result }
 {
     selector(t, st.data, st.idx, out)
 }
 
 // The chain of a selector that is not too long. Its parameters are plain, so that whoever calls it needs no walk by hand.
-pub fn parse_selector(t: &[u8; 256], s: &[u8], out: &mut [u32]) -> Chain
-    requires { Marked t.now × Room 0 s.now 0 out.old }
+pub fn parse_selector(t: &Marks, s: &[u8], out: &mut [u32]) -> Option<usize>
+    requires { Room 0 s.now 0 out.old }
     ensures { Chained (read_selector s.now) out.old out.new result }
 {
     chain_of(t, new(s), out)
 }
 
-// A refusal: all words zero.
-fn refuse(out: &mut [u32], why: Refusal) -> Counted
-    ensures { (result ≡ Counted.Refused why) × (out.new ≡ replicate (length out.old) 0) }
-{
-    table::clear(out);
-    Counted::Refused(why)
-}
-
-// The first n words of `words`, into the first of `out`.
-fn copy(out: &mut [u32], words: &[u32], n: usize)
-    requires { (n ≤ length out.old) × (n ≤ length words.now) }
-    ensures { out.new ≡ take n words.now ++ drop n out.old }
-{
-    let mut i = 0;
-    while i < n {
-        out[i] = words[i];
-        i += 1;
-    }
-}
-
 // How many pieces the selector has; their words are the first of `out`.
-pub fn parse_query_selector(s: &[u8], out: &mut [u32]) -> Counted
+pub fn parse_query_selector(s: &[u8], out: &mut [u32]) -> Result<usize, Refusal>
     ensures { Answered s.now out.old out.new result }
 {
     if LIMIT < s.len() {
-        return refuse(out, Refusal::SelectorTooLong);
+        return table::refuse(out, Refusal::SelectorTooLong);
     }
-    let t = scan::mark_table();
+    let t = Marks::new();
     let mut words = [0u32; ROOM];
-    let Chain::Pieces(n) = parse_selector(&t, s, &mut words) else {
-        return refuse(out, Refusal::SelectorNotRead);
+    let Some(n) = parse_selector(&t, s, &mut words) else {
+        return table::refuse(out, Refusal::SelectorNotRead);
     };
     if out.len() < WORDS * n {
-        return refuse(out, Refusal::BufferTooShort);
+        return table::refuse(out, Refusal::BufferTooShort);
     }
-    copy(out, &words, WORDS * n);
-    Counted::Count(n)
+    let end = WORDS * n;
+    out[..end].copy_from_slice(&words[..end]);
+    Ok(n)
 }

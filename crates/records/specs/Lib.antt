@@ -1,2 +1,3 @@
 pub mod Records
+pub mod Questions
 pub mod Printed

@@ -1,74 +1,40 @@
 -- A list of recorded questions: a record is five numbers on a line, some bytes, and a line feed.
-use Rattle.std.specs.Prelude.{ℕ, zero, suc, ◌+◌, List, [], ◌∷◌, ◌++◌, get_or}
-use Rattle.std.proofs.Math.Option.{Option, none, some}
+use Rattle.std.specs.Prelude.{ℕ, zero, suc, ◌+◌, List, [], ◌∷◌, get_or, Option, Some, None}
+use Rattle.std.specs.Option.{option_map, option_and_then}
 use Rattle.rules.specs.Bytes.{is}
 use Rattle.rules.specs.Scan.{pick, here}
-use Rattle.rules.specs.Places.{expect_at}
-use Rattle.rules.specs.declared.Expected.{Expected}
-use Rattle.rules.specs.declared.Expected.TheVariants.{Next, Other}
 use Rattle.decimal.specs.Digits.{number_at}
-use Rattle.decimal.specs.declared.Number.{Number}
-use Rattle.decimal.specs.declared.Number.TheVariants.{Read, Bad as NoNumber}
-use Rattle.records.specs.declared.Place.{Place}
-use Rattle.records.specs.declared.Place.TheVariants.{To as Until, Bad as NoPlace}
 use Rattle.records.specs.declared.Head.{Head}
 use Rattle.records.specs.declared.Record.{Record}
-use Rattle.records.specs.declared.Record.TheVariants.{Whole, Bad as NoRecord}
 
 -- ---- a number
 
--- the number n, if something expected stands after it
-abbrev pub passed : ℕ → Expected → Number
-passed n (Next place) = Read n place
-passed n Other = NoNumber
-
-abbrev pub followed : ℕ → List ℕ → Number → Number
-followed q s (Read n end) = passed n (expect_at q s end)
-followed q s NoNumber = NoNumber
+-- a number and the place after it, if the byte q stands there: the place after both
+abbrev pub followed : ℕ → List ℕ → ℕ × ℕ → Option (ℕ × ℕ)
+followed q s x = pick (here (is q) s x.1) (Some (x.0, x.1 + 1)) None
 
 -- the number at the place, with the byte q after it
-unfoldable pub number_before : ℕ → List ℕ → ℕ → Number
-number_before q s at = followed q s (number_at s at)
-
--- numbers, and after them those that are read from there on
-abbrev pub joined : List ℕ → Option (List ℕ × ℕ) → Option (List ℕ × ℕ)
-joined ns none = none
-joined ns (some x) = some (ns ++ x.0, x.1)
-
--- a number, and what is read after it
-abbrev pub more : Number → (ℕ → Option (List ℕ × ℕ)) → Option (List ℕ × ℕ)
-more (Read n place) f = joined (n ∷ []) (f place)
-more NoNumber f = none
+unfoldable pub number_before : ℕ → List ℕ → ℕ → Option (ℕ × ℕ)
+number_before q s at = option_and_then (followed q s) (number_at s at)
 
 -- so many numbers, each with a space after it, and the place after them
 unfoldable pub numbers_at : ℕ → List ℕ → ℕ → Option (List ℕ × ℕ)
-numbers_at zero s at = some ([], at)
-numbers_at (suc k) s at = more (number_before 32 s at) (numbers_at k s)
-
--- what was read into a buffer
-abbrev pub read_into : Place → List ℕ → Option (List ℕ × ℕ)
-read_into (Until end) ns = some (ns, end)
-read_into NoPlace ns = none
+numbers_at zero s at = Some ([], at)
+numbers_at (suc k) s at =
+    option_and_then
+    (λ x. option_map (λ y. (x.0 ∷ y.0, y.1)) (numbers_at k s x.1))
+    (number_before 32 s at)
 
 -- ---- a record
-
--- what follows from a number, or from several, and the place after it
-abbrev pub then : Number → (ℕ → ℕ → Record) → Record
-then (Read n place) f = f n place
-then NoNumber f = NoRecord
-
-abbrev pub then_all : Option (List ℕ × ℕ) → (List ℕ → ℕ → Record) → Record
-then_all none f = NoRecord
-then_all (some x) f = f x.0 x.1
 
 -- a record's numbers, the first four and the last
 abbrev pub head_of : List ℕ → ℕ → Head
 head_of ns n = record { op = get_or ns 0 0; a = get_or ns 1 0; b = get_or ns 2 0; c = get_or ns 3 0; n = n }
 
+-- the record of these numbers whose bytes start at the place, if a line feed stands after them
+abbrev pub ending : List ℕ → List ℕ → ℕ × ℕ → Option Record
+ending s ns x = pick (here (is 10) s (x.1 + x.0)) (Some (record { head = head_of ns x.0; start = x.1 })) None
+
 -- four numbers with a space after each, one with a line feed, and as many bytes as that one says, with a line feed
-unfoldable pub record_at : List ℕ → ℕ → Record
-record_at s at =
-    then_all (numbers_at 4 s at)
-    (λ ns place.
-    then (number_before 10 s place)
-    (λ n start. pick (here (is 10) s (start + n)) (Whole (head_of ns n) start) NoRecord))
+unfoldable pub record_at : List ℕ → ℕ → Option Record
+record_at s at = option_and_then (λ x. option_and_then (ending s x.0) (number_before 10 s x.1)) (numbers_at 4 s at)

@@ -3,15 +3,15 @@
 
 #![tactic(auto)]
 
-ghost use Rattle.std.specs.Prelude.{◌≡◌, ◌∷◌, ◌++◌, length};
-ghost use Rattle.lines.specs.Decimal.{decimal};
-ghost use Rattle.lines.specs.Lines.{field};
-ghost use Rattle.lines.specs.Writes.{Writes};
-ghost use Rattle.records.specs.Records.{number_before, numbers_at, read_into, record_at};
-ghost use Rattle.records.specs.Printed.{fields, line};
+ghost use Rattle.std.specs.Prelude.{◌≡◌, ℕ, ◌∷◌, [], ◌++◌, length, map, decimal, flat_map, IfOk};
+ghost use Rattle.std.specs.Option.{option_map};
+ghost use Rattle.lines.specs.Lines.{field, line_feed};
+ghost use Rattle.lines.specs.Writer.{Puts};
+ghost use Rattle.records.specs.Records.{number_before, numbers_at, record_at};
+ghost use Rattle.records.specs.Questions.{numbers_of};
 
-use decimal::Number;
-use rules::Expected;
+use itoa::Integer;
+use lines::Writer;
 
 // The five numbers of a record: what is asked, three more, and how many bytes follow.
 #[derive(Clone, Copy)]
@@ -25,167 +25,159 @@ pub struct Head {
 
 // A record's numbers, and the place where its bytes start.
 #[derive(Clone, Copy)]
-pub enum Record {
-    Whole(Head, usize),
-    Bad,
+pub struct Record {
+    pub head: Head,
+    pub start: usize,
 }
 
-// The place after what was read or written, or none for a record that is not one.
-#[derive(Clone, Copy)]
-pub enum Place {
-    To(usize),
-    Bad,
+// An unsigned integer that holds each number of a record.
+pub trait Number: Copy {
+    ghost value: { Self → ℕ };
+
+    fn of(n: u32) -> Self
+        ensures { value result ≡ n };
+}
+
+impl Number for u32 {
+    ghost value = { λ n. n };
+
+    fn of(n: u32) -> u32 {
+        n
+    }
+}
+
+impl Number for usize {
+    ghost value = { λ n. n };
+
+    fn of(n: u32) -> usize {
+        n as usize
+    }
 }
 
 // ---- reading a record
 
-// The number at the place, and the byte q after it.
-fn number_before(s: &[u8], at: usize, q: u8) -> Number
+// The number at the place, with the byte q after it, and the place after both.
+#[tactic(auto, unfolding(crate::specs::Records::number_before))]
+fn number_before(s: &[u8], at: usize, q: u8) -> Option<(u32, usize)>
     ensures { result ≡ number_before q s.now at }
 {
-    let Number::Read(n, end) = decimal::number_at(s, at) else {
-        return Number::Bad;
-    };
-    let Expected::Next(next) = scan::expect_and_skip(s, end, q) else {
-        return Number::Bad;
-    };
-    Number::Read(n, next)
+    let (n, end) = decimal::number_at(s, at)?;
+    if scan::is_at(s, end, q) {
+        Some((n, end + 1))
+    } else {
+        None
+    }
 }
 
-// Reads a number for each word, with a space after it, and answers the place after them.
-pub fn words_at(s: &[u8], at: usize, words: &mut [u32]) -> Place
-    ensures { numbers_at (length words.old) s.now at ≡ read_into result words.new }
+// Reads as many numbers as there is room for, each with a space after it, and answers the place after them.
+pub fn numbers_at<T: Number>(s: &[u8], at: usize, numbers: &mut [T]) -> Option<usize>
+    ensures { numbers_at (length numbers.old) s.now at ≡ option_map (λ end. (map T.value numbers.new, end)) result }
 {
     let mut place = at;
-    let mut i = 0;
-    while i < words.len() {
-        let Number::Read(n, next) = number_before(s, place, b' ') else {
-            return Place::Bad;
-        };
-        words[i] = n;
+    for number in numbers.iter_mut() {
+        let (n, next) = number_before(s, place, b' ')?;
+        *number = T::of(n);
         place = next;
-        i += 1;
     }
-    Place::To(place)
-}
-
-// The same for places.
-pub fn places_at(s: &[u8], at: usize, places: &mut [usize]) -> Place
-    ensures { numbers_at (length places.old) s.now at ≡ read_into result places.new }
-{
-    let mut place = at;
-    let mut i = 0;
-    while i < places.len() {
-        let Number::Read(n, next) = number_before(s, place, b' ') else {
-            return Place::Bad;
-        };
-        places[i] = n as usize;
-        place = next;
-        i += 1;
-    }
-    Place::To(place)
+    Some(place)
 }
 
 // The record at the place: its numbers with a space after each but the last, its bytes, and a line feed after both.
-pub fn record_at(s: &[u8], at: usize) -> Record
+#[tactic(auto, unfolding(crate::specs::Records::record_at))]
+pub fn record_at(s: &[u8], at: usize) -> Option<Record>
     ensures { result ≡ record_at s.now at }
 {
     let mut front = [0; 4];
-    let Place::To(place) = words_at(s, at, &mut front) else {
-        return Record::Bad;
-    };
-    let Number::Read(n, start) = number_before(s, place, b'\n') else {
-        return Record::Bad;
-    };
-    if scan::is_at(s, start + n as usize, b'\n') {
-        let head = Head {
-            op: front[0],
-            a: front[1],
-            b: front[2],
-            c: front[3],
-            n,
-        };
-        return Record::Whole(head, start);
+    let place = numbers_at(s, at, &mut front)?;
+    let (n, start) = number_before(s, place, b'\n')?;
+    if !scan::is_at(s, start + n as usize, b'\n') {
+        return None;
     }
-    Record::Bad
+    let [op, a, b, c] = front;
+    let head = Head { op, a, b, c, n };
+    Some(Record { head, start })
 }
 
-// Whether the record is of a kind that `replay` knows, with zeros for the numbers that its kind does not use.
-pub fn is_known(h: Head) -> bool {
-    let op = h.op;
-    match op {
-        1 | 6 | 9 | 10 => h.c == 0,
-        7 | 8 => (h.a == 0) & (h.c == 0),
-        3 | 5 => (h.b == 0) & (h.c == 0),
-        4 | 12 => (h.c == 0) & (h.n == 0),
-        2 => (h.b == 0) & (h.c == 0) & (h.n == 0),
-        11 | 13 => true,
-        _ => false,
+// ---- what a record asks
+
+// What is asked, with the numbers that it takes. Handles, manners and places in a table are what a record says, whether or not
+// they are any; room is how many entries are lent.
+#[derive(Clone, Copy)]
+pub enum Question {
+    Parse { words: u32, times: u32 },
+    Range { handle: u32 },
+    Attribute { handle: u32 },
+    Text { handle: u32, room: u32 },
+    Id { manner: u32 },
+    Class { manner: u32, room: u32 },
+    Selector { room: u32 },
+    Query { room: u32 },
+    Below { handle: u32, room: u32 },
+    Attributes { handles: u32, room: u32 },
+    Texts { handles: u32, room: u32, ends: u32 },
+    SetWord { place: u32, value: u32 },
+    Names { handles: u32, room: u32, names: u32 },
+}
+
+// No question has such numbers.
+#[derive(Clone, Copy)]
+pub struct UnknownQuestion;
+
+// A number that a question does not take is zero, and so is the number of its bytes where it takes none.
+impl TryFrom<Head> for Question {
+    type Error = UnknownQuestion;
+
+    ghost try_from_gives = { λ h r. IfOk r (λ q. numbers_of q ≡ h.op ∷ h.a ∷ h.b ∷ h.c ∷ []) };
+
+    fn try_from(h: Head) -> Result<Question, UnknownQuestion> {
+        Ok(match (h.op, h.a, h.b, h.c, h.n) {
+            (1, words, times, 0, _) => Question::Parse { words, times },
+            (2, handle, 0, 0, 0) => Question::Range { handle },
+            (3, handle, 0, 0, _) => Question::Attribute { handle },
+            (4, handle, room, 0, 0) => Question::Text { handle, room },
+            (5, manner, 0, 0, _) => Question::Id { manner },
+            (6, manner, room, 0, _) => Question::Class { manner, room },
+            (7, 0, room, 0, _) => Question::Selector { room },
+            (8, 0, room, 0, _) => Question::Query { room },
+            (9, handle, room, 0, _) => Question::Below { handle, room },
+            (10, handles, room, 0, _) => Question::Attributes { handles, room },
+            (11, handles, room, ends, _) => Question::Texts {
+                handles,
+                room,
+                ends,
+            },
+            (12, place, value, 0, 0) => Question::SetWord { place, value },
+            (13, handles, room, names, _) => Question::Names {
+                handles,
+                room,
+                names,
+            },
+            _ => return Err(UnknownQuestion),
+        })
     }
 }
 
-// ---- a line: a word, then each number after a space, then a line feed
+// ---- the line of an answer: a word, then each number after a space, then a line feed
 
-pub fn put_sizes(out: &mut [u8], at: usize, values: &[usize]) -> usize
-    ensures { Writes out.old at (fields values.now) out.new result }
+// A number and some values.
+pub fn put_line<I: Integer>(line: &mut Writer, word: &[u8], number: u32, values: &[I])
+    ensures { let numbers = field (decimal number) ++ flat_map (λ n. field (I.text n)) values.now in
+        Puts line.old (word.now ++ (numbers ++ line_feed)) line.new }
 {
-    let mut place = at;
-    let mut i = 0;
-    while i < values.len() {
-        place = lines::put_size(out, place, values[i]);
-        i += 1;
-    }
-    place
+    line.put(word);
+    line.put_field(number);
+    line.put_fields(values);
+    line.put_byte(b'\n');
 }
 
-fn put_words(out: &mut [u8], at: usize, values: &[u32]) -> usize
-    ensures { Writes out.old at (fields values.now) out.new result }
+// A refusal's number, a count, and what a buffer holds.
+pub fn put_list<I: Integer>(line: &mut Writer, word: &[u8], number: u32, count: usize, values: &[I])
+    ensures { let numbers = field (decimal number) ++ (field (decimal count) ++ flat_map (λ n. field (I.text n)) values.now) in
+        Puts line.old (word.now ++ (numbers ++ line_feed)) line.new }
 {
-    let mut place = at;
-    let mut i = 0;
-    while i < values.len() {
-        place = lines::put_size(out, place, values[i] as usize);
-        i += 1;
-    }
-    place
-}
-
-pub fn put_bytes(out: &mut [u8], at: usize, values: &[u8]) -> usize
-    ensures { Writes out.old at (fields values.now) out.new result }
-{
-    let mut place = at;
-    let mut i = 0;
-    while i < values.len() {
-        place = lines::put_size(out, place, values[i] as usize);
-        i += 1;
-    }
-    place
-}
-
-// The line of a number and some values.
-pub fn put_line(out: &mut [u8], word: &[u8], number: u32, values: &[usize]) -> usize
-    ensures { Writes out.old 0 (line word.now (number ∷ values.now)) out.new result }
-{
-    let named = lines::put(out, 0, word);
-    let numbered = lines::put_size(out, named, number as usize);
-    let end = put_sizes(out, numbered, values);
-    lines::put_byte(out, end, b'\n')
-}
-
-// The start of a line: its word, a refusal's number and a count.
-pub fn put_counted(out: &mut [u8], word: &[u8], number: u32, count: usize) -> usize
-    ensures { Writes out.old 0 (word.now ++ (field (decimal number) ++ field (decimal count))) out.new result }
-{
-    let named = lines::put(out, 0, word);
-    let numbered = lines::put_size(out, named, number as usize);
-    lines::put_size(out, numbered, count)
-}
-
-// The line of a call that writes words.
-pub fn put_list(out: &mut [u8], word: &[u8], number: u32, count: usize, words: &[u32]) -> usize
-    ensures { Writes out.old 0 (line word.now (number ∷ count ∷ words.now)) out.new result }
-{
-    let counted = put_counted(out, word, number, count);
-    let end = put_words(out, counted, words);
-    lines::put_byte(out, end, b'\n')
+    line.put(word);
+    line.put_field(number);
+    line.put_field(count);
+    line.put_fields(values);
+    line.put_byte(b'\n');
 }

@@ -5,32 +5,42 @@ use Prim.Native.Nat.{ℕ, zero, suc, ◌+◌}
 use native.Mathlib.Numerals.{add-one}
 use native.Mathlib.Omega.{arith}
 use lib.ListN.{length}
-use Rattle.rules.specs.declared.Counted.{Counted}
-use Rattle.lines.specs.Writes.{Writes}
+use borrow.Author.Tests.{eqb-true}
+use Rattle.lines.specs.declared.Writer.{Writer}
+use Rattle.lines.specs.Writer.{Puts}
 use Rattle.lines.proofs.Laws.{then}
+use Rattle.std.proofs.lemmas.Grind.{flat_map-append}
 use Rattle.tl.specs.Exports.{Exports, ExportsBoth}
-use Rattle.records.specs.Printed.{line}
+use Rattle.std.specs.Prelude.{decimal, ◌==◌, true, Result}
+use Rattle.lines.specs.Lines.{field, line_feed}
+use Rattle.records.specs.Printed.{fields, line}
 use Rattle.replay.specs.Lending.{repeated}
 use Rattle.replay.specs.Printed.{Prints, PrintsBoth}
+use Rattle.rules.specs.declared.Refusal.{Refusal}
 
-pub prints : {out word : List ℕ} {answer : Counted} {buffer out₂ : List ℕ} {r n k : ℕ} {left : List ℕ}
-    → Exports answer buffer n k left → Writes out 0 (line word (n ∷ k ∷ left)) out₂ r → Prints out word answer buffer out₂ r left
+pub prints : {u v : Writer} {word : List ℕ} {answer : Result ℕ Refusal} {buffer : List ℕ} {n k : ℕ} {left : List ℕ}
+    → Exports answer buffer n k left → Puts u (word ++ ((field (decimal n) ++ (field (decimal k) ++ fields left)) ++ line_feed)) v
+    → Prints u word answer buffer v left
+unfolding line
 prints e w = record { printed = rw (← e.is, ← e.left) w; kept = e.left }
 
-pub prints_both : {out word : List ℕ} {answer : Counted} {places texts out₂ : List ℕ} {r n k : ℕ} {ends left : List ℕ}
-    → ExportsBoth answer places texts n k ends left → Writes out 0 (line word (n ∷ k ∷ (ends ++ left))) out₂ r
-    → PrintsBoth out word answer places texts out₂ r ends left
-prints_both e w = record { printed = rw (← e.is, ← e.ends_left, ← e.out_left) w; ends_kept = e.ends_left; kept = e.out_left }
+pub prints_both : {u v : Writer} {word : List ℕ} {answer : Result ℕ Refusal} {places texts : List ℕ} {n k : ℕ} {ends left : List ℕ}
+    → ExportsBoth answer places texts n k ends left
+    → Puts u (word ++ ((field (decimal n) ++ (field (decimal k) ++ (fields ends ++ fields left))) ++ line_feed)) v
+    → PrintsBoth u word answer places texts v ends left
+unfolding line
+prints_both {ends = ends} {left = left} e w =
+    let p = rw (← flat_map-append (λ m. field (decimal m)) ends left) at w in
+    record { printed = rw (← e.is, ← e.ends_left, ← e.out_left) p; ends_kept = e.ends_left; kept = e.out_left }
 
 -- ---- a text so many times
 
-pub repeated_none : (k : ℕ) (text : List ℕ) → length text ≡ 0 → repeated k text ≡ []
+pub repeated_none : (k : ℕ) (text : List ℕ) → (length text == 0) ≡ true → repeated k text ≡ []
 unfolding repeated
 repeated_none zero text e = refl
-repeated_none (suc k) [] e = ap (λ (t : List ℕ). t ++ []) (repeated_none k [] e)
-repeated_none (suc k) (b ∷ bs) e = absurd (omega arith)
+repeated_none (suc k) [] e = ap (λ (t : List ℕ). t ++ []) (repeated_none k [] refl)
+repeated_none (suc k) (b ∷ bs) e = let z : suc (length bs) ≡ 0 = eqb-true (suc (length bs)) 0 e in absurd (omega arith)
 
-pub then_again : {out : List ℕ} {at : ℕ} {o o₂ : List ℕ} {r r₂ : ℕ} (text : List ℕ) (i : ℕ)
-    → Writes out at (repeated i text) o r → Writes o r text o₂ r₂ → Writes out at (repeated (i + 1) text) o₂ r₂
+pub then_again : {u v w : Writer} (text : List ℕ) (i : ℕ) → Puts u (repeated i text) v → Puts v text w → Puts u (repeated (i + 1) text) w
 unfolding repeated
 then_again text i a b = rw add-one (then a b)

@@ -1,4 +1,4 @@
--- The other examples of document 01, and one or more for each rule that its examples leave out, as the rules compute them.
+-- Examples, one or more for each rule that the checked pages leave out, as the rules compute them.
 use Prim.Native.Nat.{ℕ}
 use mathlib.Core.Path.{◌≡◌, refl}
 use mathlib.Core.List.{List, [], ◌∷◌, ◌++◌}

@@ -1,4 +1,5 @@
 -- What holds of the value of each attribute holds of what a lookup answers; so that lies within the page.
+use Rattle.std.proofs.Common.{Option, Some, None}
 use mathlib.Core.Bool.{Bool, true, false}
 use mathlib.Core.List.{List, [], ◌∷◌}
 use Prim.Native.Nat.{ℕ, zero, suc, ◌≤◌}
@@ -11,8 +12,6 @@ use Rattle.rules.specs.Lookup.{Inside, InsideAssigned, held_as, attributes, name
 use Rattle.rules.specs.declared.Attribute.{Attribute}
 use Rattle.rules.specs.declared.Held.{Held}
 use Rattle.rules.specs.declared.Held.TheVariants.{Absent, Bare, Value}
-use Rattle.rules.specs.declared.Value.{Value as Assigned}
-use Rattle.rules.specs.declared.Value.TheVariants.{Missing, Given}
 use Rattle.rules.proofs.Pick.{cases}
 use Rattle.rules.proofs.Runs.{skip_ge, skip_le}
 
@@ -21,9 +20,9 @@ inside_more m n Absent l i = tt
 inside_more m n Bare l i = tt
 inside_more m n (Value a e) l i = (i.0, omega (arith, i.1))
 
-pub held_inside : (n : ℕ) (r : Held) (v : Assigned) → Inside n r → InsideAssigned n v → Inside n (held_as r v)
-held_inside n r Missing i j = i
-held_inside n r (Given a e) i j = j
+pub held_inside : (n : ℕ) (r : Held) (v : Option (ℕ × ℕ)) → Inside n r → InsideAssigned n v → Inside n (held_as r v)
+held_inside n r None i j = i
+held_inside n r (Some (a, e)) i j = j
 
 -- Q holds of each attribute
 abbrev pub Each : (Attribute → Type 0) → List Attribute → Type 0
@@ -37,7 +36,7 @@ module _ (white : ℕ → Bool) (p : List ℕ) where
 
   -- b says whether a quote stands at v
   given_inside : (b : Bool) (v q : ℕ) → v ≤ length p
-      → InsideAssigned (length p) (Given (pick b (pass p v) v) (pick b (skip (other q) p (pass p v)) (skip (in_value white) p v)))
+      → InsideAssigned (length p) (Some (pick b (pass p v) v, pick b (skip (other q) p (pass p v)) (skip (in_value white) p v)))
   given_inside true v q l = run (other q) (pass p v) (omega arith)
   given_inside false v q l = run (in_value white) v l
 
@@ -48,8 +47,8 @@ module _ (white : ℕ → Bool) (p : List ℕ) where
       (λ t. given_inside (here is_quote p v) v (get_or p v 0) (run white (pass p w) (omega arith)).1) (λ t. tt)
 
   -- what holds of each value given holds of what is held, whichever name is asked for
-  module _ (G : Assigned → Type 0) (H : Held → Type 0) (absent : H Absent) (bare : H Bare)
-      (held : (r : Held) (v : Assigned) → H r → G v → H (held_as r v))
+  module _ (G : Option (ℕ × ℕ) → Type 0) (H : Held → Type 0) (absent : H Absent) (bare : H Bare)
+      (held : (r : Held) (v : Option (ℕ × ℕ)) → H r → G v → H (held_as r v))
     where
       abbrev All : List Attribute → Type 0
       All = Each (λ a. G a.value)

@@ -17,7 +17,7 @@ use Rattle.rules.specs.Chain.{selector_at, chain_at, written}
 use Rattle.rules.specs.Query.{meaning}
 use Rattle.rules.specs.Answers.{parse_answer, parse_table, range_answer, attribute_answer, attribute_part, id_answer, selector_answer, selector_buffer, query_answer, query_buffer}
 
--- the rules answer what document 01 says
+-- the rules answer what the examples say
 checked_pages : answers pages ≡ said pages
 unfolding span agree from only each one_of attribute_at attribute_next attributes_end comment_end bang tag closing markup item_at close_into put step
     steps with_last node_at filled all reaching attributes first_of last_of lookup_from answer gap words_from times contains operand_at

@@ -1,22 +1,21 @@
--- Profiles: what the test of a profile tells; and tl's profile passes it, with document 01's white and void tests.
+-- Profiles: what the test of a profile tells; and tl's profile passes it, with tl's white and void tests.
 use mathlib.Core.Path.{◌≡◌, refl, sym, ap, ◌∙◌}
-use mathlib.Core.Bool.{Bool, true, false, not, ◌&&◌, ◌||◌, or-false, and-false, true≢false}
+use mathlib.Core.Bool.{Bool, true, false, not, ◌||◌, or-false, and-false, true≢false}
 use mathlib.Core.List.{List, [], ◌∷◌, ◌++◌, map}
-use Prim.Native.Nat.{ℕ, zero, suc, ◌+◌, ◌*◌, ◌-◌, ◌≤◌, ◌<◌}
+use Prim.Native.Nat.{ℕ, zero, suc, ◌+◌, ◌-◌, ◌≤◌, ◌<◌}
 use native.Mathlib.Decide.{dec_lt}
-use native.Mathlib.Numerals.{add-one}
 use native.Mathlib.Omega.{arith}
-use lib.Dec.{eqb, leb, ltb, eqb-suc-zero}
+use lib.Dec.{eqb-suc-zero}
 use lib.ListN.{length, get_or, take, drop, length-take, length-drop, replicate, get_or-eq_default}
 use lib.Seq.{get_or-take, get_or-drop}
-use borrow.Author.Tests.{leb-true, eqb-true, eq-eqb, ne_eqb, ltb-true, lt-ltb, not-false}
+use borrow.Author.Tests.{leb-true, eqb-true, eq-eqb, ne_eqb, lt-ltb, not-false}
 use Rattle.rules.specs.Bytes.{is_white, is_ident, is, other}
 use Rattle.rules.specs.Scan.{pick, span, skip, agree, same, part}
 use Rattle.rules.specs.Lists.{from}
 use Rattle.rules.specs.Names.{one_of, is_void, void_names}
 use Rattle.rules.specs.Sound.{all}
 use Rattle.rules.specs.Profile.{limit_of, white_of, name_start, name_byte, name_of, void_of, name_byte_fine, name_fine, numbers_fine, profile_fine, tl_profile}
-use Rattle.rules.proofs.Sound.{and_left, and_right, all_true, and_iff}
+use Rattle.rules.proofs.Sound.{all_true, and_iff}
 use Rattle.rules.proofs.Runs.{skip_ge, span_le}
 use Rattle.rules.proofs.Names.{agree_uneven}
 

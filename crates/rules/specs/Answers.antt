@@ -1,6 +1,5 @@
--- The public calls: for every input what each answers, and each lent buffer afterwards. The refusals are tried in the paper's order.
-use Rattle.std.specs.Prelude.{ℕ, suc, ◌*◌, Bool, List, [], ◌∷◌, ltb, length, replicate}
-use Rattle.std.proofs.Math.Option.{Option, none, some}
+-- The public calls: for every input what each answers, and each lent buffer afterwards. The refusals are tried in the order of their numbers.
+use Rattle.std.specs.Prelude.{ℕ, suc, ◌*◌, Bool, List, [], ◌∷◌, ltb, length, replicate, Option, Some, None, Result, Ok, Err}
 use Rattle.rules.specs.Scan.{pick}
 use Rattle.rules.specs.Reader.{read}
 use Rattle.rules.specs.Table.{row_at, head_of, filled, node_at}
@@ -14,28 +13,22 @@ use Rattle.rules.specs.Refusals.{page_too_long, asking, asking_tag, selector_too
 use Rattle.rules.specs.declared.Refusal.TheVariants.{PageTooLong, TableTooSmall, SelectorTooLong, SelectorNotRead, BufferTooShort}
 use Rattle.rules.specs.declared.Manner.{Manner}
 use Rattle.rules.specs.declared.Piece.{Piece}
-use Rattle.rules.specs.declared.Counted.{Counted}
-use Rattle.rules.specs.declared.Counted.TheVariants.{Count, Refused}
-use Rattle.rules.specs.declared.Ranged.{Ranged}
-use Rattle.rules.specs.declared.Ranged.TheVariants.{Handles, Empty, Refused as Unranged}
-use Rattle.rules.specs.declared.Asked.{Asked}
-use Rattle.rules.specs.declared.Asked.TheVariants.{Holds, Refused as Unasked}
-use Rattle.rules.specs.declared.Found.{Found}
-use Rattle.rules.specs.declared.Found.TheVariants.{At, Nothing, Refused as Unfound}
+use Rattle.rules.specs.declared.Refusal.{Refusal}
+use Rattle.rules.specs.declared.Held.{Held}
 
 -- ---- reading the page p into a table
 
 module _ (white : ℕ → Bool) (void : List ℕ → Bool) (p : List ℕ) where
   -- of n words
-  unfoldable pub parse_answer : ℕ → Counted
+  unfoldable pub parse_answer : ℕ → Result ℕ Refusal
   parse_answer n =
       let count = length (read white void p).nodes in
-      pick (page_too_long p) (Refused PageTooLong) (pick (ltb n (row_at count)) (Refused TableTooSmall) (Count count))
+      pick (page_too_long p) (Err PageTooLong) (pick (ltb n (row_at count)) (Err TableTooSmall) (Ok count))
 
-  abbrev pub parsed_table : List ℕ → Counted → List ℕ
-  parsed_table t (Count n) =
+  abbrev pub parsed_table : List ℕ → Result ℕ Refusal → List ℕ
+  parsed_table t (Ok n) =
       filled t (head_of n (read white void p).version (length p)) (read white void p).nodes
-  parsed_table t (Refused x) = replicate (length t) 0
+  parsed_table t (Err x) = replicate (length t) 0
 
   -- the table t afterwards
   unfoldable pub parse_table : List ℕ → List ℕ
@@ -43,18 +36,18 @@ module _ (white : ℕ → Bool) (void : List ℕ → Bool) (p : List ℕ) where
 
 -- ---- reading the selector s into a buffer of n words
 
-abbrev pub pieces_answer : ℕ → Option (List Piece) → Counted
-pieces_answer n none = Refused SelectorNotRead
-pieces_answer n (some ps) = pick (ltb n (6 * length ps)) (Refused BufferTooShort) (Count (length ps))
+abbrev pub pieces_answer : ℕ → Option (List Piece) → Result ℕ Refusal
+pieces_answer n None = Err SelectorNotRead
+pieces_answer n (Some ps) = pick (ltb n (6 * length ps)) (Err BufferTooShort) (Ok (length ps))
 
 -- how many pieces the selector has
-unfoldable pub selector_answer : List ℕ → ℕ → Counted
+unfoldable pub selector_answer : List ℕ → ℕ → Result ℕ Refusal
 selector_answer s n =
-    let answer = pieces_answer n (read_selector s) in pick (selector_too_long s) (Refused SelectorTooLong) answer
+    let answer = pieces_answer n (read_selector s) in pick (selector_too_long s) (Err SelectorTooLong) answer
 
 abbrev pub pieces_words : Option (List Piece) → List ℕ
-pieces_words none = []
-pieces_words (some ps) = written ps
+pieces_words None = []
+pieces_words (Some ps) = written ps
 
 -- the buffer afterwards
 unfoldable pub selector_buffer : List ℕ → List ℕ → List ℕ
@@ -62,65 +55,65 @@ selector_buffer s out = filled_by out (pieces_words (read_selector s)) (selector
 
 -- ---- asking the table ws of the page p
 
-abbrev pub range_of : ℕ → ℕ → Ranged
-range_of h last = pick (ltb h last) (Handles (suc h) last) Empty
+abbrev pub range_of : ℕ → ℕ → Option (ℕ × ℕ)
+range_of h last = pick (ltb h last) (Some (suc h, last)) None
 
-abbrev pub first_found : List ℕ → Found
-first_found [] = Nothing
-first_found (h ∷ hs) = At h
+abbrev pub first_found : List ℕ → Option ℕ
+first_found [] = None
+first_found (h ∷ hs) = Some h
 
 -- refusals 5, 6 and 7 of a query, whose finds are those of a chain, into n words
-abbrev pub finds_answer : (List Piece → List ℕ) → ℕ → Option (List Piece) → Counted
-finds_answer finds n none = Refused SelectorNotRead
-finds_answer finds n (some ps) = counted n (length (finds ps))
+abbrev pub finds_answer : (List Piece → List ℕ) → ℕ → Option (List Piece) → Result ℕ Refusal
+finds_answer finds n None = Err SelectorNotRead
+finds_answer finds n (Some ps) = counted n (length (finds ps))
 
-abbrev pub selected : (List Piece → List ℕ) → List ℕ → ℕ → Counted
-selected finds s n = pick (selector_too_long s) (Refused SelectorTooLong) (finds_answer finds n (read_selector s))
+abbrev pub selected : (List Piece → List ℕ) → List ℕ → ℕ → Result ℕ Refusal
+selected finds s n = pick (selector_too_long s) (Err SelectorTooLong) (finds_answer finds n (read_selector s))
 
 abbrev pub finds_of : (List Piece → List ℕ) → Option (List Piece) → List ℕ
-finds_of finds none = []
-finds_of finds (some ps) = finds ps
+finds_of finds None = []
+finds_of finds (Some ps) = finds ps
 
 module _ (white : ℕ → Bool) (p ws : List ℕ) where
   -- the handles below the tag h
-  unfoldable pub range_answer : ℕ → Ranged
-  range_answer h = asking_tag Unranged p ws h (range_of h (last_at ws h))
+  unfoldable pub range_answer : ℕ → Result (Option (ℕ × ℕ)) Refusal
+  range_answer h = asking_tag p ws h (Ok (range_of h (last_at ws h)))
 
   -- the inner text of the tag h, into n bytes
-  unfoldable pub text_answer : ℕ → ℕ → Counted
-  text_answer h n = asking_tag Refused p ws h (counted n (length (inner_text p ws h)))
+  unfoldable pub text_answer : ℕ → ℕ → Result ℕ Refusal
+  text_answer h n = asking_tag p ws h (counted n (length (inner_text p ws h)))
 
   unfoldable pub text_buffer : ℕ → List ℕ → List ℕ
   text_buffer h out = filled_by out (inner_text p ws h) (text_answer h (length out))
 
   -- what the tag h holds for the attribute name k, and the part of the page that is handed back
-  unfoldable pub attribute_answer : ℕ → List ℕ → Asked
-  attribute_answer h k = asking_tag Unasked p ws h (Holds (lookup white p (node_at ws h) k))
+  unfoldable pub attribute_answer : ℕ → List ℕ → Result Held Refusal
+  attribute_answer h k = asking_tag p ws h (Ok (lookup white p (node_at ws h) k))
 
   unfoldable pub attribute_part : ℕ → List ℕ → List ℕ
   attribute_part h k = asked_part p (attribute_answer h k)
 
   -- the tag with the id k
-  unfoldable pub id_answer : Manner → List ℕ → Found
-  id_answer m k = asking Unfound p ws (first_found (by_id white p ws m k))
+  unfoldable pub id_answer : Manner → List ℕ → Result (Option ℕ) Refusal
+  id_answer m k = asking p ws (Ok (first_found (by_id white p ws m k)))
 
   -- the tags with the class k, into n words
-  unfoldable pub class_answer : Manner → List ℕ → ℕ → Counted
-  class_answer m k n = asking Refused p ws (counted n (length (by_class white p ws m k)))
+  unfoldable pub class_answer : Manner → List ℕ → ℕ → Result ℕ Refusal
+  class_answer m k n = asking p ws (counted n (length (by_class white p ws m k)))
 
   unfoldable pub class_buffer : Manner → List ℕ → List ℕ → List ℕ
   class_buffer m k out = filled_by out (by_class white p ws m k) (class_answer m k (length out))
 
   -- the finds of the selector s over the whole page, into n words
-  unfoldable pub query_answer : List ℕ → ℕ → Counted
-  query_answer s n = asking Refused p ws (selected (over_page white p ws s) s n)
+  unfoldable pub query_answer : List ℕ → ℕ → Result ℕ Refusal
+  query_answer s n = asking p ws (selected (over_page white p ws s) s n)
 
   unfoldable pub query_buffer : List ℕ → List ℕ → List ℕ
   query_buffer s out = filled_by out (finds_of (over_page white p ws s) (read_selector s)) (query_answer s (length out))
 
   -- and below the tag h
-  unfoldable pub query_below_answer : ℕ → List ℕ → ℕ → Counted
-  query_below_answer h s n = asking_tag Refused p ws h (selected (below_tag white p ws s h) s n)
+  unfoldable pub query_below_answer : ℕ → List ℕ → ℕ → Result ℕ Refusal
+  query_below_answer h s n = asking_tag p ws h (selected (below_tag white p ws s h) s n)
 
   unfoldable pub query_below_buffer : ℕ → List ℕ → List ℕ → List ℕ
   query_below_buffer h s out = filled_by out (finds_of (below_tag white p ws s h) (read_selector s)) (query_below_answer h s (length out))

@@ -1,13 +1,12 @@
 -- The calls on a list of handles: one test of the table, then the single call's answer for each handle, in order.
-use Rattle.std.specs.Prelude.{ℕ, ◌+◌, ◌*◌, Bool, false, ◌||◌, List, [], ◌∷◌, ◌++◌, ltb, length, drop}
+use Rattle.std.specs.Prelude.{ℕ, ◌+◌, ◌*◌, Bool, false, ◌||◌, List, [], ◌∷◌, ◌++◌, ltb, length, drop, Result, Ok, Err}
 use Rattle.rules.specs.Scan.{pick, part}
 use Rattle.rules.specs.Lists.{each}
 use Rattle.rules.specs.Text.{inner_text}
 use Rattle.rules.specs.Refusals.{asking, not_a_tag, filled_by, asked_numbers}
 use Rattle.rules.specs.Answers.{attribute_answer}
 use Rattle.rules.specs.declared.Refusal.TheVariants.{NotATag, BufferTooShort}
-use Rattle.rules.specs.declared.Counted.{Counted}
-use Rattle.rules.specs.declared.Counted.TheVariants.{Count, Refused}
+use Rattle.rules.specs.declared.Refusal.{Refusal}
 
 -- some number passes the test
 unfoldable pub some : (ℕ → Bool) → List ℕ → Bool
@@ -15,10 +14,10 @@ some f [] = false
 some f (x ∷ xs) = f x || some f xs
 
 -- refusals 1, 3 and 4, 4 if a handle of the list is no tag's; then 7, if there is too little room; then the handles' count
-unfoldable pub batch_answer : List ℕ → List ℕ → List ℕ → Bool → Counted
+unfoldable pub batch_answer : List ℕ → List ℕ → List ℕ → Bool → Result ℕ Refusal
 batch_answer p ws hs short =
-    asking Refused p ws
-    (pick (some (not_a_tag ws) hs) (Refused NotATag) (pick short (Refused BufferTooShort) (Count (length hs))))
+    asking p ws
+    (pick (some (not_a_tag ws) hs) (Err NotATag) (pick short (Err BufferTooShort) (Ok (length hs))))
 
 -- what f gives for each name of the text s, one after the other: the first starts at `at`, and they end at the places
 unfoldable pub each_name : (List ℕ → List ℕ) → List ℕ → ℕ → List ℕ → List ℕ
@@ -37,7 +36,7 @@ module _ (white : ℕ → Bool) (p ws hs : List ℕ) where
   attributes_found k = each (λ h. three_of white p ws h k) hs
 
   -- into n words
-  unfoldable pub attributes_answer : ℕ → Counted
+  unfoldable pub attributes_answer : ℕ → Result ℕ Refusal
   attributes_answer n = batch_answer p ws hs (ltb n (3 * length hs))
 
   unfoldable pub attributes_buffer : List ℕ → List ℕ → List ℕ
@@ -49,7 +48,7 @@ module _ (white : ℕ → Bool) (p ws hs : List ℕ) where
   names_found s es = each (λ h. each_name (three_of white p ws h) s 0 es) hs
 
   -- into n words
-  unfoldable pub names_answer : List ℕ → ℕ → Counted
+  unfoldable pub names_answer : List ℕ → ℕ → Result ℕ Refusal
   names_answer es n = batch_answer p ws hs (ltb n (3 * (length es * length hs)))
 
   unfoldable pub names_buffer : List ℕ → List ℕ → List ℕ → List ℕ
@@ -70,7 +69,7 @@ module _ (p ws hs : List ℕ) where
   ends_found = ends_from 0 (inner_text p ws) hs
 
   -- into n words for the ends and m bytes for the texts
-  unfoldable pub texts_answer : ℕ → ℕ → Counted
+  unfoldable pub texts_answer : ℕ → ℕ → Result ℕ Refusal
   texts_answer n m = batch_answer p ws hs (ltb n (length hs) || ltb m (length texts_found))
 
   unfoldable pub texts_buffer : List ℕ → List ℕ → List ℕ

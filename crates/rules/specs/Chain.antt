@@ -1,6 +1,5 @@
 -- The chain of pieces that a selector is, and its written form.
-use Rattle.std.specs.Prelude.{ℕ, zero, suc, ◌-◌, List, [], ◌∷◌, ◌++◌, length, ltb}
-use Rattle.std.proofs.Math.Option.{Option, none, some}
+use Rattle.std.specs.Prelude.{ℕ, zero, suc, ◌-◌, List, [], ◌∷◌, ◌++◌, length, ltb, Option, Some, None}
 use Rattle.rules.specs.Bytes.{is}
 use Rattle.rules.specs.Scan.{pick, here}
 use Rattle.rules.specs.Selector.{span, spaces_end, simple_at}
@@ -11,8 +10,6 @@ use Rattle.rules.specs.declared.Joiner.{Joiner}
 use Rattle.rules.specs.declared.Joiner.TheVariants.{End, And, Or, Descendant, Parent}
 use Rattle.rules.specs.declared.Piece.{Piece}
 use Rattle.rules.specs.declared.Join.{Join}
-use Rattle.rules.specs.declared.Read.{Read}
-use Rattle.rules.specs.declared.Read.TheVariants.{Found, NotFound}
 
 abbrev pub piece : Simple → Joiner → Piece
 piece x j = record { simple = x; joiner = j }
@@ -27,8 +24,8 @@ join_at s k m =
 
 -- a piece before the rest of its chain, which was read or not
 abbrev pub before : Piece → Option (List Piece) → Option (List Piece)
-before x none = none
-before x (some ps) = some (x ∷ ps)
+before x None = None
+before x (Some ps) = Some (x ∷ ps)
 
 -- `parse_combinator` after the simple selector x, which ends at k: the end of the chain, or a joiner and the rest
 abbrev pub combinator_at : (ℕ → Option (List Piece)) → List ℕ → Simple → ℕ → Option (List Piece)
@@ -36,15 +33,15 @@ combinator_at rest s x k =
     let m = spaces_end s k in
     let j = join_at s k m in
     let chain = before (piece x j.joiner) (rest j.next) in
-    pick (ltb m (length s)) chain (some (piece x End ∷ []))
+    pick (ltb m (length s)) chain (Some (piece x End ∷ []))
 
-abbrev pub selector_of : (ℕ → Option (List Piece)) → List ℕ → Read → Option (List Piece)
-selector_of rest s (Found x k) = combinator_at rest s x k
-selector_of rest s NotFound = none
+abbrev pub selector_of : (ℕ → Option (List Piece)) → List ℕ → Option (Simple × ℕ) → Option (List Piece)
+selector_of rest s (Some (x, k)) = combinator_at rest s x k
+selector_of rest s None = None
 
 -- `selector` at the place i, up to n pieces
 unfoldable pub selector_at : ℕ → List ℕ → ℕ → Option (List Piece)
-selector_at zero s i = none
+selector_at zero s i = None
 selector_at (suc n) s i = selector_of (selector_at n s) s (simple_at s (spaces_end s i))
 
 -- each piece takes a byte or more, so a chain has no more pieces than bytes are left

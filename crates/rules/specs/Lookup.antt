@@ -1,11 +1,9 @@
 -- The attribute lookup: a tag's attributes, read again from its name's end, the page taken to end at word 5.
-use Rattle.std.specs.Prelude.{ℕ, zero, suc, ◌≤◌, Bool, ◌||◌, List, [], ◌∷◌, length, take}
+use Rattle.std.specs.Prelude.{ℕ, zero, suc, ◌≤◌, Bool, ◌||◌, List, [], ◌∷◌, length, take, Option, Some, None}
 use Rattle.rules.specs.Ascii.{bytes}
 use Rattle.rules.specs.Scan.{pick, skip, here, part, same}
 use Rattle.rules.specs.Attributes.{not_closing, attribute_at, attribute_next}
 use Rattle.rules.specs.declared.Attribute.{Attribute}
-use Rattle.rules.specs.declared.Value.{Value as Assigned}
-use Rattle.rules.specs.declared.Value.TheVariants.{Missing, Given}
 use Rattle.rules.specs.declared.Held.{Held}
 use Rattle.rules.specs.declared.Held.TheVariants.{Absent, Bare, Value}
 use Rattle.rules.specs.declared.Node.{Node}
@@ -21,9 +19,9 @@ abbrev pub is_last : List ℕ → Bool
 is_last k = same k id_name || same k class_name
 
 -- what an attribute holds, if without a value it holds `alone`
-abbrev pub held_as : Held → Assigned → Held
-held_as alone Missing = alone
-held_as alone (Given a e) = Value a e
+abbrev pub held_as : Held → Option (ℕ × ℕ) → Held
+held_as alone None = alone
+held_as alone (Some (a, e)) = Value a e
 
 module _ (white : ℕ → Bool) (p : List ℕ) where
   -- the attributes from a place on, up to a `/` or `>` or the end of the page; each takes a byte or more
@@ -63,9 +61,9 @@ Inside n Absent = Unit {0}
 Inside n Bare = Unit {0}
 Inside n (Value a e) = (a ≤ e) × (e ≤ n)
 
-abbrev pub InsideAssigned : ℕ → Assigned → Type 0
-InsideAssigned n Missing = Unit {0}
-InsideAssigned n (Given a e) = (a ≤ e) × (e ≤ n)
+abbrev pub InsideAssigned : ℕ → Option (ℕ × ℕ) → Type 0
+InsideAssigned n None = Unit {0}
+InsideAssigned n (Some (a, e)) = (a ≤ e) × (e ≤ n)
 
 -- ---- the same with the value's bytes
 

@@ -1,4 +1,4 @@
--- The checked pages of document 01 that are marked P, the refusals' examples on the pages `a` and `<p>`, and pages whose tags end in
+-- The checked pages: the refusals' examples on the pages `a` and `<p>`, and pages whose tags end in
 -- each of the four ways: one table, and one theorem of it, in proofs/Pages.antt.
 use Rattle.std.specs.Prelude.{List, [], ◌∷◌}
 use Rattle.rules.specs.Ascii.{bytes}

@@ -1,7 +1,7 @@
 -- A profile: how long a counterparty's pages may be, and what is white and which names are void in them, as 392 bytes. Bytes 0 to 3
 -- are the limit, low byte first; 4 to 7 the white bytes, 0 where there is none; then come 24 places of 16 bytes, each a void name
 -- followed by zeros, or all zeros where there is none.
-use Rattle.std.specs.Prelude.{ℕ, ◌+◌, ◌*◌, ◌-◌, Bool, true, false, ◌&&◌, ◌||◌, List, [], ◌∷◌, ◌++◌, map, eqb, leb, ltb, length, get_or, take, replicate}
+use Rattle.std.specs.Prelude.{ℕ, ◌+◌, ◌*◌, ◌-◌, Bool, ◌&&◌, ◌||◌, List, [], ◌∷◌, ◌++◌, map, eqb, leb, ltb, length, get_or, take, replicate}
 use Rattle.rules.specs.Bytes.{is_ident, between, is, other}
 use Rattle.rules.specs.Scan.{skip, part}
 use Rattle.rules.specs.Lists.{from}

@@ -69,7 +69,7 @@ text_row = other_row 2
 abbrev pub comment_row : ℕ → ℕ → ℕ → ℕ → List ℕ
 comment_row = other_row 3
 
--- an example: the bytes, a question, and what document 01 says
+-- an example: the bytes, a question, and what is to be answered
 pub record Example : Type 0 where
   pub given : List ℕ
   pub asking : Asking

@@ -1,19 +1,13 @@
--- The refusals: their numbers and conditions, and what an answer says in the paper's numbers.
-use Rattle.std.specs.Prelude.{ℕ, suc, ◌-◌, ◌≡◌, Bool, true, false, not, List, [], ◌∷◌, ◌++◌, ltb, length, drop, replicate}
+-- The refusals: their numbers and conditions, and what an answer says in numbers.
+use Rattle.std.specs.Prelude.{ℕ, suc, ◌-◌, ◌≡◌, Bool, true, false, not, List, [], ◌∷◌, ◌++◌, eqb, ltb, length, drop, replicate, Option, Some, None, Result, Ok, Err}
 use Rattle.rules.specs.Scan.{pick, part}
 use Rattle.rules.specs.Sound.{sound, is_tag}
 use Rattle.rules.specs.declared.Refusal.{Refusal}
 use Rattle.rules.specs.declared.Refusal.TheVariants.{PageTooLong, TableTooSmall, TableNotSound, NotATag, SelectorTooLong, SelectorNotRead, BufferTooShort}
 use Rattle.rules.specs.declared.Held.{Held}
+use Rattle.rules.specs.declared.Manner.{Manner}
+use Rattle.rules.specs.declared.Manner.TheVariants.{Scan, Closed}
 use Rattle.rules.specs.declared.Held.TheVariants.{Absent, Bare, Value}
-use Rattle.rules.specs.declared.Counted.{Counted}
-use Rattle.rules.specs.declared.Counted.TheVariants.{Count, Refused as Uncounted}
-use Rattle.rules.specs.declared.Ranged.{Ranged}
-use Rattle.rules.specs.declared.Ranged.TheVariants.{Handles, Empty, Refused as Unranged}
-use Rattle.rules.specs.declared.Asked.{Asked}
-use Rattle.rules.specs.declared.Asked.TheVariants.{Holds, Refused as Unasked}
-use Rattle.rules.specs.declared.Found.{Found}
-use Rattle.rules.specs.declared.Found.TheVariants.{At, Nothing, Refused as Unfound}
 
 -- the longest page and the longest selector
 abbrev pub page_limit : ℕ
@@ -50,8 +44,8 @@ abbrev pub selector_too_long : List ℕ → Bool
 selector_too_long s = ltb selector_limit (length s)
 
 -- 7: the count, where the buffer has room for so many
-abbrev pub counted : ℕ → ℕ → Counted
-counted room n = pick (ltb room n) (Uncounted BufferTooShort) (Count n)
+abbrev pub counted : ℕ → ℕ → Result ℕ Refusal
+counted room n = pick (ltb room n) (Err BufferTooShort) (Ok n)
 
 -- neither 1 nor 3: the table is sound for a page that is not too long
 pub record Sound (p ws : List ℕ) : Type 0 where
@@ -59,45 +53,50 @@ pub record Sound (p ws : List ℕ) : Type 0 where
   pub table : sound (length p) ws ≡ true
 
 -- refusals 1 and 3, which every question to a table comes after, and 4, where it is one about a tag
-module _ {A : Type 0} (refused : Refusal → A) (p ws : List ℕ) where
-  abbrev pub asking : A → A
-  asking answer = pick (page_too_long p) (refused PageTooLong) (pick (table_not_sound p ws) (refused TableNotSound) answer)
+module _ {A : Type 0} (p ws : List ℕ) where
+  abbrev pub asking : Result A Refusal → Result A Refusal
+  asking answer = pick (page_too_long p) (Err PageTooLong) (pick (table_not_sound p ws) (Err TableNotSound) answer)
 
-  abbrev pub asking_tag : ℕ → A → A
-  asking_tag h answer = asking (pick (not_a_tag ws h) (refused NotATag) answer)
+  abbrev pub asking_tag : ℕ → Result A Refusal → Result A Refusal
+  asking_tag h answer = asking (pick (not_a_tag ws h) (Err NotATag) answer)
 
 -- a lent buffer afterwards: what was found in its first entries and the rest as it was, or all zeros
-abbrev pub filled_by : List ℕ → List ℕ → Counted → List ℕ
-filled_by out found (Count n) = found ++ drop (length found) out
-filled_by out found (Uncounted x) = replicate (length out) 0
+abbrev pub filled_by : List ℕ → List ℕ → Result ℕ Refusal → List ℕ
+filled_by out found (Ok n) = found ++ drop (length found) out
+filled_by out found (Err x) = replicate (length out) 0
 
 -- what was found is counted and written into the lent buffer b, or refused as 7 for lack of room
-pub record Counts (found b : List ℕ) (r : Counted) (out : List ℕ) : Type 0 where
+pub record Counts (found b : List ℕ) (r : Result ℕ Refusal) (out : List ℕ) : Type 0 where
   pub is : r ≡ counted (length b) (length found)
   pub left : out ≡ filled_by b found r
 
 -- a refusal leaves the lent buffer all zero
-pub record Refuses (b : List ℕ) (why : Refusal) (r : Counted) (out : List ℕ) : Type 0 where
-  pub is : r ≡ Uncounted why
+pub record Refuses (b : List ℕ) (why : Refusal) (r : Result ℕ Refusal) (out : List ℕ) : Type 0 where
+  pub is : r ≡ Err why
   pub left : out ≡ replicate (length b) 0
+
+-- ---- a manner's number: 0 is the scan, any other number the closed manner
+
+abbrev pub manner_of : ℕ → Manner
+manner_of n = pick (eqb n 0) Scan Closed
 
 -- ---- each answer in numbers: the refusal's number, or 0; the count; then its values
 
-abbrev pub counted_numbers : Counted → List ℕ
-counted_numbers (Count n) = 0 ∷ n ∷ []
-counted_numbers (Uncounted x) = number_of x ∷ 0 ∷ []
+abbrev pub counted_numbers : Result ℕ Refusal → List ℕ
+counted_numbers (Ok n) = 0 ∷ n ∷ []
+counted_numbers (Err x) = number_of x ∷ 0 ∷ []
 
 -- how many handles the range has, and the first and last of them
-abbrev pub ranged_numbers : Ranged → List ℕ
-ranged_numbers (Handles a e) = 0 ∷ suc (e - a) ∷ a ∷ e ∷ []
-ranged_numbers Empty = 0 ∷ 0 ∷ 0 ∷ 0 ∷ []
-ranged_numbers (Unranged x) = number_of x ∷ 0 ∷ 0 ∷ 0 ∷ []
+abbrev pub ranged_numbers : Result (Option (ℕ × ℕ)) Refusal → List ℕ
+ranged_numbers (Ok (Some (a, e))) = 0 ∷ suc (e - a) ∷ a ∷ e ∷ []
+ranged_numbers (Ok None) = 0 ∷ 0 ∷ 0 ∷ 0 ∷ []
+ranged_numbers (Err x) = number_of x ∷ 0 ∷ 0 ∷ 0 ∷ []
 
 -- how many tags were found, 1 or 0, and the handle
-abbrev pub found_numbers : Found → List ℕ
-found_numbers (At h) = 0 ∷ 1 ∷ h ∷ []
-found_numbers Nothing = 0 ∷ 0 ∷ 0 ∷ []
-found_numbers (Unfound x) = number_of x ∷ 0 ∷ 0 ∷ []
+abbrev pub found_numbers : Result (Option ℕ) Refusal → List ℕ
+found_numbers (Ok (Some h)) = 0 ∷ 1 ∷ h ∷ []
+found_numbers (Ok None) = 0 ∷ 0 ∷ 0 ∷ []
+found_numbers (Err x) = number_of x ∷ 0 ∷ 0 ∷ []
 
 -- 0 absent, 1 without a value, 2 with a value, and where that starts and ends
 abbrev pub held_numbers : Held → List ℕ
@@ -105,9 +104,9 @@ held_numbers Absent = 0 ∷ 0 ∷ 0 ∷ []
 held_numbers Bare = 1 ∷ 0 ∷ 0 ∷ []
 held_numbers (Value a e) = 2 ∷ a ∷ e ∷ []
 
-abbrev pub asked_numbers : Asked → List ℕ
-asked_numbers (Holds v) = 0 ∷ held_numbers v
-asked_numbers (Unasked x) = number_of x ∷ 0 ∷ 0 ∷ 0 ∷ []
+abbrev pub asked_numbers : Result Held Refusal → List ℕ
+asked_numbers (Ok v) = 0 ∷ held_numbers v
+asked_numbers (Err x) = number_of x ∷ 0 ∷ 0 ∷ 0 ∷ []
 
 -- the part of the page that an attribute's answer hands back; empty without a value, and on a refusal
 abbrev pub held_part : List ℕ → Held → List ℕ
@@ -115,6 +114,6 @@ held_part p Absent = []
 held_part p Bare = []
 held_part p (Value a e) = part p a e
 
-abbrev pub asked_part : List ℕ → Asked → List ℕ
-asked_part p (Holds v) = held_part p v
-asked_part p (Unasked x) = []
+abbrev pub asked_part : List ℕ → Result Held Refusal → List ℕ
+asked_part p (Ok v) = held_part p v
+asked_part p (Err x) = []

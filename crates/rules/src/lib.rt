@@ -1,4 +1,4 @@
-// The types that the promises speak of. Document 01 as definitions is in specs/, laws about them in proofs/.
+// The types that the promises speak of. The rules that tl goes by are in specs/, as definitions, and laws about them in proofs/.
 
 #![tactic(auto)]
 
@@ -7,6 +7,7 @@
 // A row of the table: `name` and `stop` are a tag's name start and name end, `opened` the place after its opening `>`. How a tag
 // ended: 0 it was open at the end of the page, 1 a closing tag with its `>` closed it, 2 one that the page's end cut short did,
 // 3 it was never opened, since its name is void or it ended in `/>`. Of texts and comments it is 0.
+// The kind is a number and no enum: it is a word of the table, which a caller of the C interface may have filled with anything.
 #[derive(Clone, Copy)]
 pub struct Node {
     pub kind: u32,
@@ -20,33 +21,12 @@ pub struct Node {
     pub ended: u32,
 }
 
-// The byte at a place, or the end of the bytes.
-#[derive(Clone, Copy)]
-pub enum Current {
-    Byte(u8),
-    End,
-}
-
-// The place after a byte that was expected, or another one stood there.
-#[derive(Clone, Copy)]
-pub enum Expected {
-    Next(usize),
-    Other,
-}
-
-// What an attribute is given: nothing, or a part of the page.
-#[derive(Clone, Copy)]
-pub enum Value {
-    Missing,
-    Given(usize, usize),
-}
-
-// An attribute: its name from and to, its value, the place after it.
+// An attribute: its name from and to; its value from and to, if it is given one; the place after it.
 #[derive(Clone, Copy)]
 pub struct Attribute {
     pub name: usize,
     pub stop: usize,
-    pub value: Value,
+    pub value: Option<(usize, usize)>,
     pub next: usize,
 }
 
@@ -55,14 +35,30 @@ pub struct Attribute {
 pub enum Item {
     // a text up to its end
     Text(usize),
-    // a closing name, from and to
-    Close(usize, usize, usize),
+    // a closing tag: its name from and to
+    Close {
+        name: usize,
+        stop: usize,
+        next: usize,
+    },
     // a comment, from and to
-    Comment(usize, usize, usize),
+    Comment {
+        start: usize,
+        end: usize,
+        next: usize,
+    },
     // a document type: does it name html
-    Doctype(bool, usize),
+    Doctype {
+        html: bool,
+        next: usize,
+    },
     // a tag: its name from and to, the place after its `>`, and whether it ended in `/>`
-    Tag(usize, usize, usize, bool),
+    Tag {
+        name: usize,
+        stop: usize,
+        next: usize,
+        slash: bool,
+    },
     // nothing that makes a node
     Nothing(usize),
 }
@@ -74,13 +70,6 @@ pub struct State {
     pub count: usize,
     pub inner: u32,
     pub version: u32,
-}
-
-// A state, and whether there was room for the row that was due.
-#[derive(Clone, Copy)]
-pub struct Progress {
-    pub room: bool,
-    pub state: State,
 }
 
 // What a tag holds for an attribute name: nothing, the name without a value, or a part of the page.
@@ -96,6 +85,17 @@ pub enum Held {
 pub enum Manner {
     Scan,
     Closed,
+}
+
+impl From<u32> for Manner {
+    ghost use Rattle.std.specs.Prelude.{◌≡◌};
+    ghost use Rattle.rules.specs.Refusals.{manner_of};
+
+    ghost from_gives = { λ n manner. manner ≡ manner_of n };
+
+    fn from(n: u32) -> Self {
+        if n == 0 { Manner::Scan } else { Manner::Closed }
+    }
 }
 
 // ---- selectors
@@ -132,6 +132,17 @@ pub enum Joiner {
     Parent,
 }
 
+impl From<Joiner> for u32 {
+    ghost use Rattle.std.specs.Prelude.{◌≡◌};
+    ghost use Rattle.rules.specs.Chain.{joiner_word};
+
+    ghost from_gives = { λ joiner word. word ≡ joiner_word joiner };
+
+    fn from(joiner: Joiner) -> u32 {
+        joiner as u32
+    }
+}
+
 // A piece of a chain: a simple selector, and the joiner to the rest.
 #[derive(Clone, Copy)]
 pub struct Piece {
@@ -146,26 +157,12 @@ pub struct Join {
     pub next: usize,
 }
 
-// The value in an attribute selector, and the place after its `]`.
-#[derive(Clone, Copy)]
-pub enum Operand {
-    Part(Span, usize),
-    NoValue,
-}
-
-// A simple selector that was read, and the place after it.
-#[derive(Clone, Copy)]
-pub enum Read {
-    Found(Simple, usize),
-    NotFound,
-}
-
 // ---- answers
 
-// Why a call is refused, in the order of the numbers 1 to 7.
-#[derive(Clone, Copy)]
+// Why a call is refused. Its number, 1 to 7, is what a caller of the exports gets.
+#[derive(Clone, Copy, PartialEq, Eq)]
 pub enum Refusal {
-    PageTooLong,
+    PageTooLong = 1,
     TableTooSmall,
     TableNotSound,
     NotATag,
@@ -174,39 +171,13 @@ pub enum Refusal {
     BufferTooShort,
 }
 
-// Whether a question may be asked, or why it is refused.
-#[derive(Clone, Copy)]
-pub enum Checked {
-    Fine,
-    Refused(Refusal),
-}
+impl From<Refusal> for u32 {
+    ghost use Rattle.std.specs.Prelude.{◌≡◌};
+    ghost use Rattle.rules.specs.Refusals.{number_of};
 
-// A count: of nodes read, of bytes or handles written, of a selector's pieces.
-#[derive(Clone, Copy)]
-pub enum Counted {
-    Count(usize),
-    Refused(Refusal),
-}
+    ghost from_gives = { λ why n. n ≡ number_of why };
 
-// The handles below a tag, first and last, or none.
-#[derive(Clone, Copy)]
-pub enum Ranged {
-    Handles(usize, usize),
-    Empty,
-    Refused(Refusal),
-}
-
-// What a tag holds for an attribute name.
-#[derive(Clone, Copy)]
-pub enum Asked {
-    Holds(Held),
-    Refused(Refusal),
-}
-
-// The tag with an id, or none.
-#[derive(Clone, Copy)]
-pub enum Found {
-    At(usize),
-    Nothing,
-    Refused(Refusal),
+    fn from(why: Refusal) -> u32 {
+        why as u32
+    }
 }

@@ -1,4 +1,5 @@
 -- A simple selector that is found ends after the place where it was looked for, and within the selector.
+use Rattle.std.proofs.Common.{Option, Some, None}
 use mathlib.Core.Path.{◌≡◌, refl, subst}
 use mathlib.Core.Bool.{Bool, true}
 use mathlib.Core.List.{List}
@@ -11,26 +12,22 @@ use Rattle.rules.specs.Selector.{is_operator, operated, with_value, ident, ident
 use Rattle.rules.specs.declared.Span.{Span}
 use Rattle.rules.specs.declared.Simple.{Simple}
 use Rattle.rules.specs.declared.Simple.TheVariants.{AttributeValue}
-use Rattle.rules.specs.declared.Operand.{Operand}
-use Rattle.rules.specs.declared.Operand.TheVariants.{Part, NoValue}
-use Rattle.rules.specs.declared.Read.{Read}
-use Rattle.rules.specs.declared.Read.TheVariants.{Found, NotFound}
 use Rattle.rules.proofs.Pick.{cases}
 use Rattle.rules.proofs.Runs.{skip_ge, skip_le, skip_more}
 use Rattle.rules.proofs.Places.{here_below, here_in}
 
 -- a place after i and within l
-abbrev OperandAhead : ℕ → ℕ → Operand → Type 0
-OperandAhead i l (Part v n) = (i < n) × (n ≤ l)
-OperandAhead i l NoValue = Unit {0}
+abbrev OperandAhead : ℕ → ℕ → Option (Span × ℕ) → Type 0
+OperandAhead i l (Some (v, n)) = (i < n) × (n ≤ l)
+OperandAhead i l None = Unit {0}
 
-abbrev pub Ahead : ℕ → ℕ → Read → Type 0
-Ahead i l (Found x n) = (i < n) × (n ≤ l)
-Ahead i l NotFound = Unit {0}
+abbrev pub Ahead : ℕ → ℕ → Option (Simple × ℕ) → Type 0
+Ahead i l (Some (x, n)) = (i < n) × (n ≤ l)
+Ahead i l None = Unit {0}
 
-with_ahead : (f : Span → Simple) (i l : ℕ) (o : Operand) → OperandAhead i l o → Ahead i l (with_value f o)
-with_ahead f i l (Part v n) h = h
-with_ahead f i l NoValue h = tt
+with_ahead : (f : Span → Simple) (i l : ℕ) (o : Option (Span × ℕ)) → OperandAhead i l o → Ahead i l (with_value f o)
+with_ahead f i l (Some (v, n)) h = h
+with_ahead f i l None h = tt
 
 module _ (s : List ℕ) (i : ℕ) where
   inside : (P : ℕ → Bool) (j : ℕ) → here P s j ≡ true → j < length s
@@ -83,5 +80,5 @@ module _ (s : List ℕ) (i : ℕ) where
       (λ h. attribute_ahead (ident s (suc i)) (ident_end s (suc i)) (omega (arith, skip_ge is_ident s (suc i))))
       (λ _. cases (Ahead i (length s)) (here is_ident s i) tag_ahead (λ _. tt)))))
 
-pub simple_found : (s : List ℕ) (i : ℕ) (x : Simple) (n : ℕ) → simple_at s i ≡ Found x n → (i < n) × (n ≤ length s)
+pub simple_found : (s : List ℕ) (i : ℕ) (x : Simple) (n : ℕ) → simple_at s i ≡ Some (x, n) → (i < n) × (n ≤ length s)
 simple_found s i x n e = subst (Ahead i (length s)) e (simple_ahead s i)

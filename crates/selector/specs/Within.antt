@@ -1,12 +1,11 @@
 -- What the functions that read at a place ask for, and the part of `attribute_from` that one of them reads.
-use Rattle.std.specs.Prelude.{ℕ, suc, ◌≤◌, List, length}
+use Rattle.std.specs.Prelude.{ℕ, suc, ◌≤◌, List, length, Option, None}
 use Rattle.rules.specs.Bytes.{is}
 use Rattle.rules.specs.Scan.{pick, here}
 use Rattle.rules.specs.Selector.{operated, with_value, operand_at}
 use Rattle.rules.specs.Refusals.{selector_limit}
 use Rattle.rules.specs.declared.Span.{Span}
-use Rattle.rules.specs.declared.Read.{Read}
-use Rattle.rules.specs.declared.Read.TheVariants.{NotFound}
+use Rattle.rules.specs.declared.Simple.{Simple}
 
 -- a place in a selector that is not too long
 pub record Within (s : List ℕ) (at : ℕ) : Type 0 where
@@ -14,5 +13,5 @@ pub record Within (s : List ℕ) (at : ℕ) : Type 0 where
   pub short : length s ≤ selector_limit
 
 -- after the name k and the byte op, at i: `=` and a value
-abbrev pub operator_at : List ℕ → Span → ℕ → ℕ → Read
-operator_at s k op i = pick (here (is 61) s i) (with_value (operated op k) (operand_at s (suc i))) NotFound
+abbrev pub operator_at : List ℕ → Span → ℕ → ℕ → Option (Simple × ℕ)
+operator_at s k op i = pick (here (is 61) s i) (with_value (operated op k) (operand_at s (suc i))) None

@@ -6,6 +6,7 @@
 --     under-..                    what it says of its parent, by where the climb stands
 --     next_is                     what a row leaves for the next one
 --     next_not, next_from_lem         what that says of the row, and of the next row's climb
+use Rattle.std.proofs.Common.{Option, Some, None}
 use mathlib.Core.Path.{◌≡◌, refl, sym, ap, ◌∙◌}
 use mathlib.Core.Bool.{Bool, true, false, not, ◌&&◌, ◌||◌, and-true, and-false, and_assoc}
 use mathlib.Core.List.{List}
@@ -21,8 +22,6 @@ use Rattle.rules.specs.Table.{node_at}
 use Rattle.rules.specs.declared.Node.{Node}
 use Rattle.rules.specs.Sound.{tagged, places_sound, ended_sound, last_at, reaching, parent_at, row_sound}
 use Rattle.rules.proofs.Sound.{and_left, and_right, sound_row, climb_step, reaching_le, reaching_here, reaching_pass}
-use Rattle.sound.specs.declared.Next.{Next}
-use Rattle.sound.specs.declared.Next.TheVariants.{From, Unsound}
 use Rattle.sound.specs.Row.{own_sound, under_sound, Starts, next_of}
 
 -- ---- a row by itself
@@ -221,7 +220,7 @@ module _ (len : ℕ) (ws : List ℕ) (count h : ℕ) where
   -- by the node n, and the three tests at their values
   pub next_is : (n : Node) → n ≡ node_at ws h → {a b c : Bool}
       → own_sound len count h n ≡ a → under_sound ws (parent_at ws h) n ≡ b → tagged n ≡ c
-      → pick (a && b) (From (pick c (h + 1) (parent_at ws h))) Unsound ≡ next_of len ws count h
+      → pick (a && b) (Some (pick c (h + 1) (parent_at ws h))) None ≡ next_of len ws count h
   next_is n en ea eb ec = rw (row_is, ← en, ea, eb, ec)
 
   -- a node that is right about its parent names it
@@ -234,10 +233,10 @@ module _ (len : ℕ) (ws : List ℕ) (count h : ℕ) where
       let low = and_left (leb h n.last && ltb n.last count) (tagged n || eqb n.last h) last in
       leb-true h n.last (and_left (leb h n.last) (ltb n.last count) low)
 
-  pub next_not : (r : Next) → r ≡ next_of len ws count h → r ≡ Unsound → row_sound len ws count h ≡ false
+  pub next_not : (r : Option ℕ) → r ≡ next_of len ws count h → r ≡ None → row_sound len ws count h ≡ false
   next_not r e u = go (row_sound len ws count h) _ (sym e ∙ u)
     where
-      go : (b : Bool) (f : ℕ) → pick b (From f) Unsound ≡ Unsound → b ≡ false
+      go : (b : Bool) (f : ℕ) → pick b (Some f) None ≡ None → b ≡ false
       go true f e = cc
       go false f e = refl
 
@@ -250,10 +249,10 @@ module _ (len : ℕ) (ws : List ℕ) (count h : ℕ) where
       let step = climb_step (last_at ws) (h + 1) h f (omega arith) (omega arith) (sym e) in
       record { low = omega (arith, reaching_le (last_at ws) h h); same = step ∙ ap (reaching (last_at ws) (h + 1)) (sym (add-one h)) }
 
-  pub next_from_lem : (r : Next) (f : ℕ) → r ≡ next_of len ws count h → r ≡ From f → (row_sound len ws count h ≡ true) × Starts ws (h + 1) f
+  pub next_from_lem : (r : Option ℕ) (f : ℕ) → r ≡ next_of len ws count h → r ≡ Some f → (row_sound len ws count h ≡ true) × Starts ws (h + 1) f
   next_from_lem r f e g = go (row_sound len ws count h) refl (sym e ∙ g)
     where
-      go : (b : Bool) → row_sound len ws count h ≡ b → pick b (From (pick (tagged (node_at ws h)) (h + 1) (parent_at ws h))) Unsound ≡ From f
+      go : (b : Bool) → row_sound len ws count h ≡ b → pick b (Some (pick (tagged (node_at ws h)) (h + 1) (parent_at ws h))) None ≡ Some f
           → (row_sound len ws count h ≡ true) × Starts ws (h + 1) f
       go true s e = (s, starts (tagged (node_at ws h)) f refl s (cc))
       go false s e = let z : ◌≡◌ {A = ℕ} 0 1 = cc in absurd (omega arith)

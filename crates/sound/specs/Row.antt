@@ -1,11 +1,9 @@
 -- The parts of a row's test, and what a row leaves for the next one.
-use Rattle.std.specs.Prelude.{◌≡◌, Bool, ◌&&◌, ◌||◌, List, ℕ, ◌+◌, ◌-◌, ◌≤◌, leb, ltb, eqb}
+use Rattle.std.specs.Prelude.{◌≡◌, Bool, ◌&&◌, ◌||◌, List, ℕ, ◌+◌, ◌-◌, ◌≤◌, leb, ltb, eqb, Option, Some, None}
 use Rattle.rules.specs.Scan.{pick}
 use Rattle.rules.specs.Table.{node_at}
 use Rattle.rules.specs.Sound.{tagged, places_sound, ended_sound, last_at, reaching, parent_at, row_sound}
 use Rattle.rules.specs.declared.Node.{Node}
-use Rattle.sound.specs.declared.Next.{Next}
-use Rattle.sound.specs.declared.Next.TheVariants.{From, Unsound}
 
 -- what the node n at row h of count says of itself: its kind and places; how it ended; own handle ≤ last < count, and another node than
 -- a tag is its own last
@@ -22,6 +20,6 @@ pub record Starts (ws : List ℕ) (h from : ℕ) : Type 0 where
   pub same : reaching (last_at ws) h from ≡ parent_at ws h
 
 -- after row h: the next climb starts at a tag itself, which may hold the next row, or at another node's parent
-abbrev pub next_of : ℕ → List ℕ → ℕ → ℕ → Next
+abbrev pub next_of : ℕ → List ℕ → ℕ → ℕ → Option ℕ
 next_of len ws count h =
-    pick (row_sound len ws count h) (From (pick (tagged (node_at ws h)) (h + 1) (parent_at ws h))) Unsound
+    pick (row_sound len ws count h) (Some (pick (tagged (node_at ws h)) (h + 1) (parent_at ws h))) None

@@ -2,10 +2,11 @@
 
 #![tactic(auto)]
 
-ghost use Rattle.std.specs.Prelude.{◌≡◌, ◌&&◌, ℕ, ◌+◌, ◌≤◌, ◌<◌, length};
+ghost use Rattle.std.specs.Prelude.{◌≡◌, ◌↔◌, ◌&&◌, ℕ, ◌+◌, ◌^◌, ◌≤◌, ◌<◌, true, length, get_or, IsSome, IfSome};
 ghost use Rattle.rules.specs.Table.{head_words, row_words, row_at, node_at};
-ghost use Rattle.rules.specs.Sound.{places_sound, ended_sound, head_sound, parent_at, row_sound, sound, all};
+ghost use Rattle.rules.specs.Sound.{places_sound, ended_sound, head_sound, parent_at, row_sound, count_of, is_tag, sound, all};
 ghost use Rattle.sound.specs.Row.{own_sound, under_sound, Starts, next_of};
+ghost use Rattle.sound.specs.Document.{Places};
 
 use rules::Node;
 
@@ -100,6 +101,7 @@ fn under(table: &[u32], n: Node, h: usize, from: usize) -> bool
 {
     let parent = n.parent as usize;
     let mut p = from;
+    // A climb from row to row: there is no index to count.
     while p != parent {
         if p == 0 {
             return false;
@@ -118,30 +120,23 @@ fn under(table: &[u32], n: Node, h: usize, from: usize) -> bool
     n.last <= m.last
 }
 
-// What a row leaves for the next one: where that one's climb starts; or the row is not sound.
-#[derive(Clone, Copy)]
-enum Next {
-    From(usize),
-    Unsound,
-}
-
 // Row h, whose climb starts at `from`. The next row may lie in h if that is a tag, and else in no row after the parent of h.
-fn row_sound(table: &[u32], len: usize, count: usize, h: usize, from: usize) -> Next
+fn row_sound(table: &[u32], len: usize, count: usize, h: usize, from: usize) -> Option<usize>
     requires h_lt_count { (h < count) × (row_at count ≤ length table.now) × Starts table.now h from }
     requires by_index { (j : ℕ) → j < h → (node_at table.now j).parent ≡ parent_at table.now j }
     ensures { result ≡ next_of len table.now count h }
 {
     let n = table::row_at(table, h);
     if !own_sound(table, len, count, h) {
-        return Next::Unsound;
+        return None;
     }
     if !under(table, n, h, from) {
-        return Next::Unsound;
+        return None;
     }
     if n.kind == 1 {
-        return Next::From(h + 1);
+        return Some(h + 1);
     }
-    Next::From(n.parent as usize)
+    Some(n.parent as usize)
 }
 
 // All rows.
@@ -150,25 +145,16 @@ fn rows_sound(table: &[u32], len: usize, count: usize) -> bool
     ensures { result ≡ all (row_sound len table.now count) count }
 {
     let mut from = 0;
-    let mut h = 0;
-    while h < count {
-        let Next::From(next) = row_sound(table, len, count, h, from) else {
+    for h in 0..count {
+        let Some(next) = row_sound(table, len, count, h, from) else {
             return false;
         };
         from = next;
-        h += 1;
     }
     true
 }
 
 // ---- the table
-
-// A header word as a number of bytes or rows.
-fn wide(word: u32) -> usize
-    ensures { result ≡ word }
-{
-    word as usize
-}
 
 // The header's words but the count.
 fn head_sound(table: &[u32], len: usize) -> bool
@@ -176,7 +162,7 @@ fn head_sound(table: &[u32], len: usize) -> bool
     ensures { result ≡ head_sound len table.now }
 {
     ((table[1] == 0) | (table[1] == 5))
-        & (wide(table[2]) == len)
+        & (table[2] as usize == len)
         & (table[3] == table::HEAD as u32)
         & (table[4] == table::ROW as u32)
         & (table[5] == 0)
@@ -196,9 +182,64 @@ pub fn table_sound(table: &[u32], len: usize) -> bool
     }
     // The rows that there is room for: no product of the count, which is any word.
     let room = (table.len() - table::HEAD) / table::ROW;
-    let count = wide(table[0]);
+    let count = table[0] as usize;
     if room < count {
         return false;
     }
     rows_sound(table, len, count)
+}
+
+// ---- what every question is asked of
+
+// A page, and a table that is sound for it.
+#[derive(Clone, Copy)]
+pub struct Document<'a> {
+    pub page: &'a [u8],
+    pub table: &'a [u32],
+    ghost fits: { sound (length page.now) table.now ≡ true },
+}
+
+impl<'a> Document<'a> {
+    // The page with the table, if that is sound for it.
+    pub fn new(page: &'a [u8], table: &'a [u32]) -> Option<Document<'a>>
+        ensures sound { IsSome result ↔ (sound (length page.now) table.now ≡ true) }
+        ensures lent { IfSome result (λ d. (d.page.now ≡ page.now) × (d.table.now ≡ table.now)) }
+    {
+        if table_sound(table, page.len()) {
+            return Some(Document { page, table });
+        }
+        None
+    }
+
+    // How many rows the table has.
+    pub fn count(&self) -> usize
+        ensures rows { result ≡ count_of self.now.table.now }
+        ensures word { result < 2 ^ 32 }
+    {
+        self.table[0] as usize
+    }
+
+    // The version of the page: 5 if its document type names html, else 0.
+    pub fn version(&self) -> u32
+        ensures { result ≡ get_or self.now.table.now 1 0 }
+    {
+        self.table[1]
+    }
+
+    // The node of row h.
+    pub fn row(&self, h: usize) -> Node
+        requires { h < count_of self.now.table.now }
+        ensures node { result ≡ node_at self.now.table.now h }
+        ensures places { Places self.now.page.now result }
+        ensures last { (h ≤ result.last) × (result.last < count_of self.now.table.now) }
+    {
+        table::row_at(self.table, h)
+    }
+
+    // Whether a handle is a tag's.
+    pub fn is_tag(&self, h: usize) -> bool
+        ensures { result ≡ is_tag self.now.table.now h }
+    {
+        h < self.count() && self.row(h).kind == 1
+    }
 }

@@ -38,7 +38,7 @@ module _ (white : ℕ → Bool) (p : List ℕ) where
   abbrev pub from : ℕ → List Attribute
   from i = attributes white p (length p) i
 
-  module _ (i s : ℕ) (h : i ≤ length p) (e : s ≡ skip white p i) where
+  module _ (i s : ℕ) (e : s ≡ skip white p i) where
     pub from_none : here not_closing p s ≡ false → from i ≡ []
     unfolding attributes
     from_none n = go (length p)

@@ -42,6 +42,23 @@ module _ (p ws : List ℕ) {h last k : ℕ} (w : Walk ws h last k) where
   pub after_next : k < last → {n : Node} → n ≡ node_at ws (k + 1) → after p ws h k ≡ text_of p n ++ after p ws h (k + 1)
   after_next t q = rw (q, add-one) (text_next p ws h (suc k) (omega (arith, w.top)))
 
+-- ---- the text of the rows of h from row k on; the last of h is that of its node
+
+module _ (p ws : List ℕ) (h : ℕ) where
+  pub from_all : text_from p ws h (h + 1) ≡ inner_text p ws h
+  from_all = rw add-one (text_all p ws h)
+
+  module _ (k : ℕ) {t : Node} (q : t ≡ node_at ws h) where
+    own_last : t.last ≡ last_at ws h
+    own_last = ap (λ (n : Node). n.last) q
+
+    pub from_none : t.last < k → text_from p ws h k ≡ []
+    from_none l = text_none p ws h k (omega (arith, own_last))
+
+    -- row k is n, and s its text
+    pub from_next : k ≤ t.last → {n : Node} → n ≡ node_at ws k → {s : List ℕ} → s ≡ text_of p n → text_from p ws h k ≡ s ++ text_from p ws h (k + 1)
+    from_next l e y = rw (y, e, add-one) (text_next p ws h k (omega (arith, own_last)))
+
 module _ (p ws : List ℕ) (e : sound (length p) ws ≡ true) where
   -- row k, as it was read
   pub record Row (k : ℕ) (n : Node) : Type 0 where

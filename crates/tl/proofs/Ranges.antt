@@ -1,6 +1,8 @@
 -- A range that is answered ascends.
+use Rattle.std.proofs.Common.{Option, Some, Ok, suc}
 use Prim.Native.Nat.{ℕ}
-use mathlib.Core.Bool.{Bool}
+use mathlib.Core.Path.{◌≡◌}
+use mathlib.Core.Bool.{Bool, true}
 use mathlib.Core.List.{List}
 use lib.Dec.{ltb}
 use borrow.Author.Tests.{ltb-true}
@@ -11,10 +13,13 @@ use Rattle.rules.specs.Answers.{range_answer}
 use Rattle.rules.proofs.Pick.{cases}
 use Rattle.tl.specs.Exports.{Ascending}
 
+ascends : (h last : ℕ) → ltb h last ≡ true → Ascending (Ok (Some (suc h, last)))
+ascends h last e = (omega arith, omega (arith, ltb-true h last e))
+
 pub range_ascends : (white : ℕ → Bool) (p ws : List ℕ) (h : ℕ) → Ascending (range_answer white p ws h)
 unfolding range_answer
 range_ascends white p ws h =
     cases Ascending (page_too_long p) (λ _. tt)
     (λ _. cases Ascending (table_not_sound p ws) (λ _. tt)
     (λ _. cases Ascending (not_a_tag ws h) (λ _. tt)
-    (λ _. cases Ascending (ltb h (last_at ws h)) (λ e. (omega (arith), omega (arith, ltb-true h (last_at ws h) e))) (λ _. tt))))
+    (λ _. cases (λ (r : Option (ℕ × ℕ)). Ascending (Ok r)) (ltb h (last_at ws h)) (ascends h (last_at ws h)) (λ _. tt))))

@@ -6,79 +6,65 @@
 ghost use Rattle.std.specs.Prelude.{◌≡◌, [], ◌∷◌, length};
 ghost use Rattle.rules.specs.Bytes.{is_white};
 ghost use Rattle.rules.specs.Names.{is_void};
-ghost use Rattle.rules.specs.Refusals.{number_of, counted_numbers, ranged_numbers, found_numbers, held_numbers, asked_numbers};
+ghost use Rattle.rules.specs.Refusals.{manner_of, counted_numbers, ranged_numbers, found_numbers, held_numbers, asked_numbers};
 ghost use Rattle.rules.specs.Answers.{parse_answer, parse_table, selector_answer, selector_buffer, range_answer, text_answer, text_buffer, attribute_answer, id_answer, class_answer, class_buffer, query_answer, query_buffer, query_below_answer, query_below_buffer};
 ghost use Rattle.rules.specs.Batch.{attributes_answer, attributes_buffer, names_answer, names_buffer, texts_answer, texts_buffer, ends_buffer};
-ghost use Rattle.tl.specs.Exports.{manner_of, Ascending, Exports, ExportsBoth};
+ghost use Rattle.tl.specs.Exports.{Ascending, Exports, ExportsBoth};
 
-use rules::{Asked, Counted, Found, Held, Manner, Ranged, Refusal};
+use rules::{Held, Manner, Refusal};
 
 // ---- answers in numbers
 
-fn number(why: Refusal) -> u32
-    ensures { result ≡ number_of why }
-{
-    match why {
-        Refusal::PageTooLong => 1,
-        Refusal::TableTooSmall => 2,
-        Refusal::TableNotSound => 3,
-        Refusal::NotATag => 4,
-        Refusal::SelectorTooLong => 5,
-        Refusal::SelectorNotRead => 6,
-        Refusal::BufferTooShort => 7,
-    }
-}
-
-fn counted(answer: Counted, count: &mut usize) -> u32
+fn counted(answer: Result<usize, Refusal>, count: &mut usize) -> u32
     ensures { (result ∷ count.new ∷ []) ≡ counted_numbers answer }
 {
     match answer {
-        Counted::Count(n) => {
+        Ok(n) => {
             *count = n;
             0
         }
-        Counted::Refused(why) => {
+        Err(why) => {
             *count = 0;
-            number(why)
+            u32::from(why)
         }
     }
 }
 
-fn ranged(answer: Ranged, out: &mut [usize; 3]) -> u32
+fn ranged(answer: Result<Option<(usize, usize)>, Refusal>, out: &mut [usize; 3]) -> u32
     requires { Ascending answer }
     ensures { (result ∷ out.new) ≡ ranged_numbers answer }
 {
     match answer {
-        Ranged::Handles(first, last) => {
-            *out = [last - first + 1, first, last];
+        Ok(Some((first, last))) => {
+            *out = [last - (first - 1), first, last];
             0
         }
-        Ranged::Empty => {
+        Ok(None) => {
             *out = [0, 0, 0];
             0
         }
-        Ranged::Refused(why) => {
+        Err(why) => {
             *out = [0, 0, 0];
-            number(why)
+            u32::from(why)
         }
     }
 }
 
-fn found(answer: Found, out: &mut [usize; 2]) -> u32
+fn found(answer: Result<Option<usize>, Refusal>, out: &mut [usize; 2]) -> u32
     ensures { (result ∷ out.new) ≡ found_numbers answer }
 {
     match answer {
-        Found::At(h) => {
+        Ok(Some(h)) => {
             *out = [1, h];
             0
         }
-        Found::Nothing => {
+        Ok(None) => {
             *out = [0, 0];
             0
         }
-        Found::Refused(why) => {
+        Err(why) => {
             *out = [0, 0];
-            number(why)
+            u32::from(why)
         }
     }
 }
@@ -94,29 +80,19 @@ fn held(answer: Held, out: &mut [usize; 3])
     }
 }
 
-fn asked(answer: Asked, out: &mut [usize; 3]) -> u32
+fn asked(answer: Result<Held, Refusal>, out: &mut [usize; 3]) -> u32
     ensures { (result ∷ out.new) ≡ asked_numbers answer }
 {
     match answer {
-        Asked::Holds(value) => {
+        Ok(value) => {
             held(value, out);
             0
         }
-        Asked::Refused(why) => {
+        Err(why) => {
             *out = [0, 0, 0];
-            number(why)
+            u32::from(why)
         }
     }
-}
-
-// The manner that a number stands for.
-fn manner_of(manner: u32) -> Manner
-    ensures { result ≡ manner_of manner }
-{
-    if manner == 0 {
-        return Manner::Scan;
-    }
-    Manner::Closed
 }
 
 // ---- the calls
@@ -172,8 +148,8 @@ pub fn tl_get_element_by_id(
     ensures { let at = id_answer is_white page.now table.now (manner_of manner) id.now in
         (result ∷ answer.new) ≡ found_numbers at }
 {
-    let way = manner_of(manner);
-    found(calls::get_element_by_id(page, table, way, id), answer)
+    let manner = Manner::from(manner);
+    found(calls::get_element_by_id(page, table, manner, id), answer)
 }
 
 // The tags with a class.
@@ -192,9 +168,9 @@ pub fn tl_get_elements_by_class_name(
         let b = out.old in
         Exports (class_answer is_white p ws m k (length b)) (class_buffer is_white p ws m k b) result count.new out.new }
 {
-    let way = manner_of(manner);
+    let manner = Manner::from(manner);
     counted(
-        calls::get_elements_by_class_name(page, table, way, class, out),
+        calls::get_elements_by_class_name(page, table, manner, class, out),
         count,
     )
 }

@@ -1,5 +1,5 @@
 -- What a table and a state hold while a page is read, and what a step does to it.
-use Rattle.std.specs.Prelude.{◌≡◌, Bool, true, false, List, [], ◌∷◌, ℕ, ◌+◌, ◌-◌, ◌≤◌, ◌<◌, length}
+use Rattle.std.specs.Prelude.{◌≡◌, Bool, true, false, List, [], ◌∷◌, ℕ, ◌+◌, ◌-◌, ◌≤◌, ◌<◌, length, Option, Some, None}
 use Rattle.rules.specs.Scan.{pick}
 use Rattle.rules.specs.Reader.{Reading, node, parent_of, with_last}
 use Rattle.rules.specs.Table.{row_at, row_words, node_at, put_row, Filled}
@@ -8,7 +8,6 @@ use Rattle.rules.specs.declared.Item.{Item}
 use Rattle.rules.specs.declared.Item.TheVariants.{Text, Close, Comment, Doctype, Tag, Nothing}
 use Rattle.rules.specs.declared.Node.{Node}
 use Rattle.rules.specs.declared.State.{State}
-use Rattle.rules.specs.declared.Progress.{Progress}
 
 -- ---- what is held
 
@@ -34,19 +33,18 @@ pub record Held (t₁ t hd : List ℕ) (R : Reading) (s : State) : Type 0 where
 
 -- The table t₁ and the state s became t₂ and r: whatever reading they held, they now hold F of it, or there was no room, since F of
 -- it has more nodes than the table has rows.
-pub record Step (F : Reading → Reading) (t₁ : List ℕ) (s : State) (t₂ : List ℕ) (r : Progress) : Type 0 where
-  pub held : (t hd : List ℕ) (R : Reading) → Held t₁ t hd R s → r.room ≡ true → Held t₂ t hd (F R) r.state
-  pub full : (t hd : List ℕ) (R : Reading) → Held t₁ t hd R s → r.room ≡ false → length t₁ < row_at (length (F R).nodes)
+pub record Step (F : Reading → Reading) (t₁ : List ℕ) (s : State) (t₂ : List ℕ) (r : Option State) : Type 0 where
+  pub held : (t hd : List ℕ) (R : Reading) (s₂ : State) → Held t₁ t hd R s → r ≡ Some s₂ → Held t₂ t hd (F R) s₂
+  pub full : (t hd : List ℕ) (R : Reading) → Held t₁ t hd R s → r ≡ None → length t₁ < row_at (length (F R).nodes)
 
-abbrev pub moved_to : State → ℕ → Progress
-moved_to s at = record { room = true; state = record { at = at; count = s.count; inner = s.inner; version = s.version } }
+abbrev pub moved_to : State → ℕ → State
+moved_to s at = record { at = at; count = s.count; inner = s.inner; version = s.version }
 
-abbrev pub added_to : State → ℕ → ℕ → Progress
-added_to s at inner = record { room = true; state = record { at = at; count = s.count + 1; inner = inner; version = s.version } }
+abbrev pub added_to : State → ℕ → ℕ → State
+added_to s at inner = record { at = at; count = s.count + 1; inner = inner; version = s.version }
 
-abbrev pub version_to : State → Bool → ℕ → Progress
-version_to s html at =
-    record { room = true; state = record { at = at; count = s.count; inner = s.inner; version = pick html 5 s.version } }
+abbrev pub version_to : State → Bool → ℕ → State
+version_to s html at = record { at = at; count = s.count; inner = s.inner; version = pick html 5 s.version }
 
 -- the node n was written to row h of the table t₁, which has that row
 pub record Written (t₁ : List ℕ) (h : ℕ) (n : Node) (t₂ : List ℕ) : Type 0 where

@@ -3,7 +3,7 @@
 
 #![tactic(auto)]
 
-ghost use Rattle.std.specs.Prelude.{◌≡◌, ◌≤◌, ◌<◌, pred, length};
+ghost use Rattle.std.specs.Prelude.{◌≡◌, ◌≤◌, ◌<◌, length};
 ghost use Rattle.rules.specs.Scan.{pick, part, same};
 ghost use Rattle.rules.specs.Names.{is_void};
 ghost use Rattle.rules.specs.Reader.{Reading, pushed, leaf, ended_by, put as put_item};
@@ -11,7 +11,7 @@ ghost use Rattle.rules.specs.Refusals.{page_limit};
 ghost use Rattle.rules.specs.declared.Item.TheVariants.{Tag, Close};
 ghost use Rattle.tree.specs.Held.{Step, Room, Inner, Within, Fits, Registered, moved_to, added_to, version_to, Open, Settled};
 
-use rules::{Item, Node, Progress, State};
+use rules::{Item, Node, State};
 
 // Word 0 of a row.
 const KIND_TAG: u32 = 1;
@@ -36,40 +36,31 @@ const HTML5: u32 = 5;
 // ---- the state
 
 // The state at another place.
-fn moved(s: State, at: usize) -> Progress
+fn moved(s: State, at: usize) -> State
     ensures { result ≡ moved_to s at }
 {
-    let mut state = s;
-    state.at = at;
-    Progress { room: true, state }
+    State { at, ..s }
 }
 
 // The state with a row more.
-fn added(s: State, at: usize, inner: u32) -> Progress
+fn added(s: State, at: usize, inner: u32) -> State
     requires { s.count < page_limit }
     ensures { result ≡ added_to s at inner }
 {
-    Progress {
-        room: true,
-        state: State {
-            at,
-            count: s.count + 1,
-            inner,
-            version: s.version,
-        },
+    State {
+        at,
+        count: s.count + 1,
+        inner,
+        version: s.version,
     }
 }
 
 // The state after a document type: version 5 if it named html, otherwise as it was.
-fn set_version(s: State, html: bool, at: usize) -> Progress
+fn set_version(s: State, html: bool, at: usize) -> State
     ensures { result ≡ version_to s html at }
 {
-    let mut state = s;
-    state.at = at;
-    if html {
-        state.version = HTML5;
-    }
-    Progress { room: true, state }
+    let version = if html { HTML5 } else { s.version };
+    State { at, version, ..s }
 }
 
 // ---- rows
@@ -87,7 +78,7 @@ fn register_tag(table: &mut [u32], h: usize, n: Node) -> bool
     true
 }
 
-// A text or a comment in the innermost open tag; reading goes on at `next`.
+// A text or a comment in the innermost open tag; reading goes on at `next`. `None`: there is no room for its row.
 fn put_leaf(
     table: &mut [u32],
     s: State,
@@ -95,7 +86,7 @@ fn put_leaf(
     start: usize,
     end: usize,
     next: usize,
-) -> Progress
+) -> Option<State>
     requires { Room table.old s × Within page_limit start end }
     ensures { Step (λ (R : Reading). pushed R (leaf R kind start end) next) table.old s table.new result }
 {
@@ -112,13 +103,10 @@ fn put_leaf(
         last: h as u32,
         ended: ENDED_OPEN,
     };
-    if register_tag(table, h, n) {
-        return added(s, next, inner);
+    if !register_tag(table, h, n) {
+        return None;
     }
-    Progress {
-        room: false,
-        state: s,
-    }
+    Some(added(s, next, inner))
 }
 
 // Whether the name from a to e is void.
@@ -133,10 +121,7 @@ fn is_void_name(page: &[u8], a: usize, e: usize) -> bool
 fn ended_new(shut: bool) -> u32
     ensures { result ≡ pick shut 3 0 }
 {
-    if shut {
-        return ENDED_NEVER_OPENED;
-    }
-    ENDED_OPEN
+    if shut { ENDED_NEVER_OPENED } else { ENDED_OPEN }
 }
 
 // How a closing tag ends the tag that it closes: its name ends at e, and where its `>` was passed the place after it is later.
@@ -144,9 +129,10 @@ fn ended_by(e: usize, next: usize) -> u32
     ensures { result ≡ ended_by e next }
 {
     if e < next {
-        return ENDED_CLOSED;
+        ENDED_CLOSED
+    } else {
+        ENDED_CUT_SHORT
     }
-    ENDED_CUT_SHORT
 }
 
 // A tag in the innermost open tag: its name from a to e, the place after its `>`, and whether it ended in `/>`.
@@ -159,7 +145,7 @@ fn put_tag(
     e: usize,
     next: usize,
     slash: bool,
-) -> Progress
+) -> Option<State>
     requires { Room table.old s × Fits (length page.now) s.at (Tag a e next slash) × (length page.now ≤ page_limit) }
     ensures { Step (λ (R : Reading). put_item is_void page.now R (Tag a e next slash)) table.old s table.new result }
 {
@@ -178,16 +164,13 @@ fn put_tag(
         last: h as u32,
         ended,
     };
-    if register_tag(table, h, n) {
-        if shut {
-            return added(s, next, inner);
-        }
-        return added(s, next, h as u32 + 1);
+    if !register_tag(table, h, n) {
+        return None;
     }
-    Progress {
-        room: false,
-        state: s,
+    if shut {
+        return Some(added(s, next, inner));
     }
+    Some(added(s, next, h as u32 + 1))
 }
 
 // Whether a tag's row has the closing name from a to e.
@@ -201,12 +184,12 @@ fn has_name(page: &[u8], n: Node, a: usize, e: usize) -> bool
 }
 
 // A closing name from a to e: the innermost open tag is closed if it has that name, and no other is looked at.
-fn close_tag(table: &mut [u32], page: &[u8], s: State, a: usize, e: usize, next: usize) -> Progress
+fn close_tag(table: &mut [u32], page: &[u8], s: State, a: usize, e: usize, next: usize) -> State
     requires { Room table.old s
         × Inner table.old s (length page.now)
         × Fits (length page.now) s.at (Close a e next)
         × (length page.now ≤ page_limit) }
-    ensures { Step (λ (R : Reading). put_item is_void page.now R (Close a e next)) table.old s table.new result }
+    ensures { Step (λ (R : Reading). put_item is_void page.now R (Close a e next)) table.old s table.new (Some result) }
 {
     let inner = s.inner as usize;
     if inner == 0 {
@@ -218,16 +201,17 @@ fn close_tag(table: &mut [u32], page: &[u8], s: State, a: usize, e: usize, next:
         let last = s.count - 1;
         let ended = ended_by(e, next);
         table::close_row(table, k, next as u32, last as u32, ended);
-        let mut state = s;
-        state.at = next;
-        state.inner = n.parent;
-        return Progress { room: true, state };
+        return State {
+            at: next,
+            inner: n.parent,
+            ..s
+        };
     }
     moved(s, next)
 }
 
-// Puts what stands at the state's place into the table.
-pub fn put(table: &mut [u32], page: &[u8], s: State, item: Item) -> Progress
+// Puts what stands at the state's place into the table; `None` where there is no room for its row.
+pub fn put(table: &mut [u32], page: &[u8], s: State, item: Item) -> Option<State>
     requires { Room table.old s
         × Inner table.old s (length page.now)
         × Fits (length page.now) s.at item
@@ -239,25 +223,20 @@ pub fn put(table: &mut [u32], page: &[u8], s: State, item: Item) -> Progress
             let at = s.at;
             put_leaf(table, s, KIND_TEXT, at, e, e)
         }
-        Item::Close(a, e, next) => close_tag(table, page, s, a, e, next),
-        Item::Comment(a, e, next) => put_leaf(table, s, KIND_COMMENT, a, e, next),
-        Item::Doctype(html, next) => set_version(s, html, next),
-        Item::Tag(a, e, next, slash) => put_tag(table, page, s, a, e, next, slash),
-        Item::Nothing(next) => moved(s, next),
+        Item::Close { name, stop, next } => Some(close_tag(table, page, s, name, stop, next)),
+        Item::Comment { start, end, next } => put_leaf(table, s, KIND_COMMENT, start, end, next),
+        Item::Doctype { html, next } => Some(set_version(s, html, next)),
+        Item::Tag {
+            name,
+            stop,
+            next,
+            slash,
+        } => put_tag(table, page, s, name, stop, next, slash),
+        Item::Nothing(next) => Some(moved(s, next)),
     }
 }
 
 // ---- the end of the page
-
-// The handle before n, or 0.
-pub fn before(n: usize) -> usize
-    ensures { result ≡ pred n }
-{
-    if n == 0 {
-        return 0;
-    }
-    n - 1
-}
 
 // Gives the open tags, from the innermost to its parents, their last descendant.
 // This is done once, at the end, since a page may nest tens of thousands deep.
@@ -266,6 +245,7 @@ pub fn settle(table: &mut [u32], inner: u32, last: u32)
     ensures { Settled table.old inner last table.new }
 {
     let mut p = inner;
+    // A climb from row to row: there is no index to count, and no stack of open tags.
     while 0 < p {
         let k = p as usize - 1;
         let n = table::row_at(table, k);

@@ -1,4 +1,5 @@
 -- A walk over handles, one by one: what is found among k handles, and the buffer into which that is written.
+use Rattle.std.proofs.Common.{Some, Ok, Err}
 use mathlib.Core.Path.{◌≡◌, refl, ap, sym, ◌∙◌}
 use mathlib.Core.Bool.{Bool, true, false}
 use mathlib.Core.List.{List, [], ◌∷◌, ◌++◌, append_assoc, append-nil}
@@ -11,9 +12,7 @@ use lib.Seq.{drop-cons, set_at}
 use Rattle.rules.specs.Lists.{from, only}
 use Rattle.rules.specs.Refusals.{Counts}
 use Rattle.rules.specs.Answers.{first_found}
-use Rattle.rules.specs.declared.Counted.TheVariants.{Count, Refused}
 use Rattle.rules.specs.declared.Refusal.TheVariants.{BufferTooShort}
-use Rattle.rules.specs.declared.Found.TheVariants.{At}
 use Rattle.rules.proofs.Lists.{from_append, only_append}
 
 -- x is stored after xs, which stands at the front of d
@@ -53,7 +52,7 @@ module _ (f : ℕ → Bool) (lo : ℕ) where
         ∙ append_assoc (among k) (h ∷ []) (only f rest)
 
     -- the first that is found
-    pub first_hit : (count : ℕ) → k < count → f h ≡ true → among k ≡ [] → At h ≡ first_found (among count)
+    pub first_hit : (count : ℕ) → k < count → f h ≡ true → among k ≡ [] → Some h ≡ first_found (among count)
     first_hit count l t e = rw (cut count l t, e)
 
   -- what was found among k handles, n of them, stands in the lent buffer out₀, which is now out
@@ -87,7 +86,7 @@ module _ (f : ℕ → Bool) (lo : ℕ) where
 
       -- h is found too, and there is no room for it
       pub walk_short : {left : List ℕ} (count : ℕ) → k < count → f h ≡ true → length out ≤ n → left ≡ replicate (length out) 0
-          → Counts (among count) out₀ (Refused BufferTooShort) left
+          → Counts (among count) out₀ (Err BufferTooShort) left
       walk_short count l t b e =
           let rest : List ℕ = only f (from (lo + (k + 1)) (count - (k + 1))) in
           let y : length (among count) ≡ length (among k) + suc (length rest) = ap length (cut k h q count l t) ∙ length-append (among k) (h ∷ rest) in
@@ -95,7 +94,7 @@ module _ (f : ℕ → Bool) (lo : ℕ) where
           record { is = rw (lt-ltb (length out₀) (length (among count)) z); left = e ∙ rw walk_size }
 
     -- all handles were passed
-    pub walk_end : (count : ℕ) → k ≡ count → Counts (among count) out₀ (Count n) out
+    pub walk_end : (count : ℕ) → k ≡ count → Counts (among count) out₀ (Ok n) out
     walk_end count q =
         let z : length (among count) ≤ length out₀ = rw (← q, ← w.number) w.room in
         let m : n ≡ length (among count) = rw (← q) w.number in

@@ -1,16 +1,33 @@
 -- Laws of `begins` and `contains`: what is shorter than k has no k in it, and a search goes from one start to the next.
 use mathlib.Core.Path.{◌≡◌, refl, sym, ap₂, ◌∙◌}
-use mathlib.Core.Bool.{Bool, true, false, ◌||◌, or_self, true≢false}
+use mathlib.Core.Bool.{Bool, true, false, ◌&&◌, ◌||◌, or_self, true≢false}
 use mathlib.Core.List.{List, [], ◌∷◌}
 use Prim.Native.Nat.{ℕ, ◌+◌, ◌-◌, ◌≤◌, ◌<◌}
-use native.Mathlib.Decide.{dec_le}
+use native.Mathlib.Decide.{dec_le, ℕ_discrete}
+use lib.Dec.{eqb}
 use native.Mathlib.Omega.{arith}
 use lib.ListN.{length, take, drop, length-take, length-drop}
-use lib.Seq.{take_all, drop-drop}
-use borrow.Author.Tests.{le-leb}
+use lib.Seq.{drop-drop}
+use borrow.Author.Tests.{le-leb, lt-leb, eq-eqb, ne_eqb}
+use Rattle.std.specs.Str.{bytes_eq}
 use Rattle.rules.specs.Scan.{agree, same, part}
 use Rattle.rules.specs.Words.{begins, ends, contains}
 use Rattle.rules.proofs.Names.{agree_uneven}
+
+flip : (a b : ℕ) → eqb b a ≡ eqb a b
+flip a b = go (ℕ_discrete a b)
+  where
+    go : Dec (a ≡ b) → eqb b a ≡ eqb a b
+    go (yes e) = rw (eq-eqb a b e, eq-eqb b a (sym e))
+    go (no n) = rw (ne_eqb a b n, ne_eqb b a (λ e. n (sym e)))
+
+-- what std says of two slices, in the words of the rules
+pub std_same : (xs ys : List ℕ) → bytes_eq ys xs ≡ same xs ys
+unfolding agree
+std_same [] [] = refl
+std_same [] (y ∷ ys) = refl
+std_same (x ∷ xs) [] = refl
+std_same (x ∷ xs) (y ∷ ys) = ap₂ ◌&&◌ (flip x y) (std_same xs ys)
 
 -- xs is shorter than k
 pub short : (k xs : List ℕ) → length xs < length k → false ≡ begins k xs
@@ -29,11 +46,15 @@ unfolding contains
 shorter k [] h = short k [] h
 shorter k (x ∷ xs) h = ap₂ ◌||◌ (short k (x ∷ xs) h) (shorter k xs (omega arith))
 
--- the end of xs, where it is as long as k
-pub at_end : (k xs : List ℕ) → length k ≤ length xs → same (part xs (length xs - length k) (length xs)) k ≡ ends k xs
-at_end k xs h =
-    let n : length (drop (length xs - length k) xs) ≤ length xs - (length xs - length k) = simp length-drop (omega arith) in
-    rw (le-leb (length k) (length xs) h, take_all (length xs - (length xs - length k)) (drop (length xs - length k) xs) n)
+-- the end of xs; where xs is shorter than k, it is all of xs
+pub at_end : (k xs : List ℕ) → same (drop (length xs - length k) xs) k ≡ ends k xs
+at_end k xs = go (dec_le (length k) (length xs))
+  where
+    go : Dec (length k ≤ length xs) → same (drop (length xs - length k) xs) k ≡ ends k xs
+    go (yes h) = rw (le-leb (length k) (length xs) h)
+    go (no h) =
+        rw (lt-leb (length k) (length xs) (omega arith))
+        (sym (agree_uneven (λ x. x) (drop (length xs - length k) xs) k (λ e. omega (arith, length-drop (length xs - length k) xs))))
 
 -- an empty k is found at once
 begins_not : (k xs : List ℕ) → begins k xs ≡ false → 0 < length k
@@ -50,18 +71,20 @@ next k (x ∷ xs) = refl
 -- ---- a search: k is in v where it is in what is left from i on; r is what the comparison at i answered
 module _ (k v : List ℕ) (i : ℕ) (inv : contains k v ≡ contains k (drop i v)) where
   module _ (r : Bool) (e : r ≡ same (part v i (i + length k)) k) where
-    tried : r ≡ begins k (drop i v)
-    tried = let n : i + length k - i ≡ length k = omega arith in rw n at e
+    here : r ≡ begins k (drop i v)
+    here = let n : i + length k - i ≡ length k = omega arith in rw n at e
 
     split : contains k v ≡ (r || contains k (drop (i + 1) v))
-    split = inv ∙ next k (drop i v) ∙ rw (drop-drop 1 i v, sym tried)
+    split = inv ∙ next k (drop i v) ∙ rw (drop-drop 1 i v, sym here)
 
     pub found : r ≡ true → true ≡ contains k v
     found y = sym (split ∙ rw y)
 
-    pub missed : r ≡ false → (0 < length k) × (contains k v ≡ contains k (drop (i + 1) v))
-    missed y = (begins_not k (drop i v) (sym tried ∙ y), split ∙ rw y)
+    pub missed : r ≡ false → contains k v ≡ contains k (drop (i + 1) v)
+    missed y = split ∙ rw y
 
-  -- too little is left
-  pub none : length v - i < length k → false ≡ contains k v
-  none h = shorter k (drop i v) (rw (length-drop i v) h) ∙ sym inv
+    -- and too little is left
+    pub missed_last : r ≡ false → length v ≤ i + length k → false ≡ contains k v
+    missed_last y h =
+        let l : 0 < length k = begins_not k (drop i v) (sym here ∙ y) in
+        shorter k (drop (i + 1) v) (rw (length-drop (i + 1) v) (omega arith)) ∙ sym (missed y)

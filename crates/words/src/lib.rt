@@ -3,11 +3,10 @@
 
 #![tactic(auto)]
 
-ghost use Rattle.std.specs.Prelude.{◌≡◌, [], ◌∷◌, get_or, drop};
-ghost use Rattle.rules.specs.Names.{one_of};
-ghost use Rattle.rules.specs.Words.{begins, ends, word, has_word, unicode_white};
+ghost use Rattle.std.specs.Prelude.{◌≡◌, [], drop};
+ghost use Rattle.rules.specs.Words.{begins, ends, word, has_word};
 ghost use Rattle.rules.specs.Words.{words as words_of, contains as holds, gap as gap_in, times as times_in};
-ghost use Rattle.words.specs.Separators.{separators, wide_gap};
+ghost use Rattle.words.specs.Separators.{separators};
 
 use constants::is_same;
 
@@ -15,20 +14,14 @@ use constants::is_same;
 pub fn starts_with(v: &[u8], k: &[u8]) -> bool
     ensures { result ≡ begins k.now v.now }
 {
-    if v.len() < k.len() {
-        return false;
-    }
-    is_same(&v[..k.len()], k)
+    v.starts_with(k)
 }
 
 // `$=`
 pub fn ends_with(v: &[u8], k: &[u8]) -> bool
     ensures { result ≡ ends k.now v.now }
 {
-    if v.len() < k.len() {
-        return false;
-    }
-    is_same(&v[v.len() - k.len()..], k)
+    v.ends_with(k)
 }
 
 // `*=`
@@ -38,104 +31,53 @@ pub fn contains(v: &[u8], k: &[u8]) -> bool
     if v.len() < k.len() {
         return false;
     }
-    // the last start at which k fits
-    let last = v.len() - k.len();
-    let mut i = 0;
-    while i <= last {
-        if is_same(&v[i..i + k.len()], k) {
+    for start in 0..=v.len() - k.len() {
+        if is_same(&v[start..start + k.len()], k) {
             return true;
         }
-        i += 1;
     }
     false
 }
 
-// A separator of one byte; the vertical tab, 11, is Unicode white only.
-fn is_white1(a: u8, unicode: bool) -> bool
-    ensures { result ≡ one_of (a ∷ []) (separators unicode) }
+// The length of the separator that v begins with, or 0. The vertical tab, 11, is Unicode white only, and so is what is longer:
+// U+0085 and 00A0, U+1680, U+2000 to 200A, U+2028, 2029 and 202F, U+205F, U+3000.
+#[tactic(auto, unfolding(rules::specs::Words::gap, rules::specs::Scan::agree))]
+fn separator(v: &[u8], unicode: bool) -> usize
+    ensures { result ≡ gap_in (separators unicode) v.now }
 {
-    (a == 9) | (a == 10) | (unicode & (a == 11)) | (a == 12) | (a == 13) | (a == 32)
-}
-
-// A separator of two bytes: U+0085, U+00A0.
-fn is_white2(a: u8, b: u8) -> bool
-    ensures { result ≡ one_of (a ∷ b ∷ []) unicode_white }
-{
-    (a == 194) & ((b == 133) | (b == 160))
-}
-
-// A separator of three bytes, after its 226 and 128: U+2000 to 200A, U+2028, U+2029, U+202F.
-// They are tested one by one, as the table of the rules has them.
-fn is_white_20(c: u8) -> bool
-    ensures { result ≡ one_of (226 ∷ 128 ∷ c ∷ []) unicode_white }
-{
-    let to_2005 = (c == 128) | (c == 129) | (c == 130) | (c == 131) | (c == 132) | (c == 133);
-    let to_200a = to_2005 | (c == 134) | (c == 135) | (c == 136) | (c == 137) | (c == 138);
-    to_200a | (c == 168) | (c == 169) | (c == 175)
-}
-
-// A separator of three bytes: those, and U+205F, U+1680, U+3000.
-fn is_white3(a: u8, b: u8, c: u8) -> bool
-    ensures { result ≡ one_of (a ∷ b ∷ c ∷ []) unicode_white }
-{
-    if a == 226 {
-        if b == 128 {
-            return is_white_20(c);
-        }
-        return (b == 129) & (c == 159);
+    match v {
+        [9 | 10 | 12 | 13 | 32, ..] => 1,
+        [11, ..] if unicode => 1,
+        [194, 133 | 160, ..] if unicode => 2,
+        [225, 154, 128, ..] if unicode => 3,
+        [226, 128, 128..=138 | 168 | 169 | 175, ..] if unicode => 3,
+        [226, 129, 159, ..] if unicode => 3,
+        [227, 128, 128, ..] if unicode => 3,
+        _ => 0,
     }
-    ((a == 225) & (b == 154) & (c == 128)) | ((a == 227) & (b == 128) & (c == 128))
-}
-
-// The length of the separator that a, b and c begin with, of two bytes or three; or 0.
-fn wide_gap(a: u8, b: u8, c: u8) -> usize
-    ensures { result ≡ wide_gap a b c }
-{
-    if is_white2(a, b) {
-        return 2;
-    }
-    if is_white3(a, b, c) { 3 } else { 0 }
-}
-
-// The byte at a place; past the end 0, which is in no separator.
-fn byte_at(v: &[u8], i: usize) -> u8
-    ensures { result ≡ get_or v.now i 0 }
-{
-    if i < v.len() { v[i] } else { 0 }
 }
 
 // The length of the separator at a place, or 0.
 pub fn gap(v: &[u8], i: usize, unicode: bool) -> usize
     ensures { result ≡ gap_in (separators unicode) (drop i v.now) }
 {
-    if v.len() <= i {
-        return 0;
+    match v.get(i..) {
+        Some(rest) => separator(rest, unicode),
+        None => 0,
     }
-    let a = v[i];
-    if is_white1(a, unicode) {
-        return 1;
-    }
-    if !unicode {
-        return 0;
-    }
-    // no separator of more than one byte begins below 194
-    if a < 194 {
-        return 0;
-    }
-    wide_gap(a, byte_at(v, i + 1), byte_at(v, i + 2))
 }
 
 // 1 where w is the word k, and 0 otherwise; an empty w is no word.
 fn count(w: &[u8], k: &[u8]) -> usize
     ensures { result ≡ times_in k.now (word w.now []) }
 {
-    if w.len() == 0 {
+    if w.is_empty() {
         return 0;
     }
     if is_same(w, k) { 1 } else { 0 }
 }
 
-// How many of the words in v are k.
+// How many of the words in v are k. Not a `for`: a step is as long as the separator.
 pub fn times(v: &[u8], k: &[u8], unicode: bool) -> usize
     ensures { result ≡ times_in k.now (words_of (separators unicode) v.now) }
 {

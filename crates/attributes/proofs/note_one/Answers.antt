@@ -3,5 +3,8 @@ use Rattle.attributes.proofs.Noted.{notes_one}
 use Rattle.attributes.proofs.note_one.Goals as goal
 
 pub returns : goal.returns
-returns c = let a = c.args in
-    notes_one a.page.now a.a a.names.now a.ends.now a.j c.requires.0 c.requires.2 c.note.new.words c.out-1.given.0 (rw c.name_at-name.ensures at c.note.ensures)
+returns c =
+    let a = c.args in
+    let names = a.names.now in
+    notes_one a.page.now a.a names.text.now names.ends.now a.j c.requires.room.0 c.requires.below c.note.new.words c.note.auto.words
+    (rw c.get.ensures at c.note.ensures)

@@ -1,29 +1,32 @@
 -- `batch::check_tags` meets its contract: what `check` answered, and then the test of the handles.
-use mathlib.Core.Path.{sym, ◌∙◌}
-use borrow.Author.Tests.{not-true, not-false}
-use Rattle.rules.specs.Scan.{pick}
-use Rattle.rules.specs.Refusals.{not_a_tag}
-use Rattle.rules.specs.Batch.{some}
-use Rattle.rules.specs.declared.Refusal.TheVariants.{NotATag}
-use Rattle.rules.specs.declared.Checked.TheVariants.{Fine, Refused}
-use Rattle.rules.proofs.Asking.{was_fine, was_refused}
+use Rattle.std.proofs.Common.{sym, length}
+use borrow.Author.Tests.{ltb-false}
+use Rattle.rules.specs.Refusals.{page_limit}
+use Rattle.rules.proofs.Asking.{was_fine}
+use Rattle.batch.proofs.Handles.{tags_test}
 use Rattle.batch.proofs.check_tags.Goals as goal
 
-pub all_tags-requires : goal.all_tags-requires
-all_tags-requires c = let a = c.args in
-    (was_fine a.page.now a.table.now (sym c.check.ensures ∙ c.in-Fine.is)).table
+pub invariant_of-result-clause-short : goal.invariant_of-result-clause-short
+invariant_of-result-clause-short c =
+    let a = c.args in
+    let s = was_fine a.page.now a.table.now (sym c.in_ok-document.ensures.answer) in
+    rw c.in_ok-document.ensures.lent.0 (ltb-false page_limit (length a.page.now) s.short)
 
-pub returns-then-all_tags : goal.returns-then-all_tags
-returns-then-all_tags c = let a = c.args in
-    let s = was_fine a.page.now a.table.now (sym c.check.ensures ∙ c.in-Fine.is) in
-    rw (s.short, s.table, not-true (some (not_a_tag a.table.now) a.handles.now) (sym c.all_tags.ensures ∙ c.if-all_tags.true))
+pub invariant_of-result-clause-each : goal.invariant_of-result-clause-each
+invariant_of-result-clause-each c = c.all_tags.ensures.0 c.if-all_tags.true
 
-pub returns-in-Refused : goal.returns-in-Refused
-returns-in-Refused c = let a = c.args in
-    let b = pick (some (not_a_tag a.table.now) a.handles.now) (Refused NotATag) Fine in
-    sym (was_refused a.page.now a.table.now Refused b _ (sym c.check.ensures ∙ c.in-Refused.is))
+pub returns-then-all_tags-clause-answer : goal.returns-then-all_tags-clause-answer
+returns-then-all_tags-clause-answer c =
+    let a = c.args in
+    let d = c.in_ok-document in
+    let s = was_fine a.page.now a.table.now (sym d.ensures.answer) in
+    let each = tags_test d.document.table.now a.handles.now _ c.if-all_tags.ensures in
+    rw (s.short, s.table, rw d.ensures.lent.1 at each)
 
-pub returns-else-all_tags : goal.returns-else-all_tags
-returns-else-all_tags c = let a = c.args in
-    let s = was_fine a.page.now a.table.now (sym c.check.ensures ∙ c.in-Fine.is) in
-    rw (s.short, s.table, not-false (some (not_a_tag a.table.now) a.handles.now) (sym c.all_tags.ensures ∙ c.if-all_tags.false))
+pub returns-clause-answer : goal.returns-clause-answer
+returns-clause-answer c =
+    let a = c.args in
+    let d = c.in_ok-document in
+    let s = was_fine a.page.now a.table.now (sym d.ensures.answer) in
+    let each = tags_test d.document.table.now a.handles.now _ c.if-all_tags.ensures in
+    rw (s.short, s.table, rw d.ensures.lent.1 at each)

@@ -3,7 +3,4 @@ use Rattle.batch.proofs.Skipping.{Filling}
 use Rattle.batch.proofs.fill_skips.Given as goal
 
 abbrev pub invariant-loop-j : goal.invariant-loop-j
-invariant-loop-j l = Filling l.page l.table l.step l.initial.skip l.skip l.next l.to l.j
-
-abbrev pub decreases-loop-j : goal.decreases-loop-j
-decreases-loop-j l = l.j
+invariant-loop-j l = Filling l.d.page.now l.d.table.now l.step l.initial.skip l.skip l.next l.to l.j

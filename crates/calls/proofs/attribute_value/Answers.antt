@@ -11,8 +11,8 @@ returns-in_default c = rw (sym c.attribute.ensures ∙ c.in_default.is)
 
 pub held_part-requires : goal.held_part-requires
 held_part-requires c = let a = c.args in
-    value_inside is_white a.page.now a.table.now a.h a.name.now _ (sym c.attribute.ensures ∙ c.in-Holds.is)
+    value_inside is_white a.page.now a.table.now a.h a.name.now _ (sym c.attribute.ensures ∙ c.in-Ok.is)
 
 pub returns : goal.returns
 unfolding attribute_part
-returns c = rw (sym c.attribute.ensures ∙ c.in-Holds.is) c.held_part.ensures
+returns c = rw (sym c.attribute.ensures ∙ c.in-Ok.is) c.held_part.ensures

@@ -1,30 +1,24 @@
--- `calls::query_selector_below` meets its contract: the refusals first, then what `select` answers.
-use mathlib.Core.Path.{sym, ◌∙◌}
-use lib.ListN.{length}
+-- `calls::query_selector_below` meets its contract: the refusals first, then the walk over the handles after h up to its last.
+use Rattle.std.proofs.Common.{◌≡◌, ◌+◌, ◌-◌, arith, sym, ap, ◌∙◌, add-one, length}
 use Rattle.rules.specs.Bytes.{is_white}
 use Rattle.rules.specs.Query.{below_tag}
+use Rattle.rules.specs.Sound.{last_at}
 use Rattle.rules.specs.Answers.{selected, query_below_answer, query_below_buffer}
-use Rattle.rules.specs.declared.Counted.TheVariants.{Refused}
-use Rattle.rules.proofs.Asking.{was_fine_tag, was_refused_tag, answered_tag}
+use Rattle.rules.specs.declared.Node.{Node}
+use Rattle.rules.proofs.Asking.{was_fine_tag, answered_tag}
 use Rattle.calls.proofs.query_selector_below.Goals as goal
 
-pub select-requires : goal.select-requires
-select-requires c = let a = c.args in
-    let s = was_fine_tag a.page.now a.table.now a.h (sym c.check_tag.ensures ∙ c.in-Fine.is) in
-    (s.sound_table.table, s.below)
-
-pub returns-in-Refused : goal.returns-in-Refused
+pub returns-in-Ok : goal.returns-in-Ok
 unfolding query_below_answer query_below_buffer
-returns-in-Refused c = let a = c.args in
-    let b = selected (below_tag is_white a.page.now a.table.now a.s.now a.h) a.s.now (length a.out.now) in
-    let e = was_refused_tag a.page.now a.table.now a.h Refused b _ (sym c.check_tag.ensures ∙ c.in-Refused.is) in
-    record { is = c.refuse.ensures.is ∙ sym e; left = rw e c.refuse.ensures.left }
-
-pub returns-in-Fine : goal.returns-in-Fine
-unfolding query_below_answer query_below_buffer
-returns-in-Fine c = let a = c.args in
-    let b = selected (below_tag is_white a.page.now a.table.now a.s.now a.h) a.s.now (length a.out.now) in
-    let s = was_fine_tag a.page.now a.table.now a.h (sym c.check_tag.ensures ∙ c.in-Fine.is) in
-    let e = answered_tag a.page.now a.table.now a.h Refused b s in
-    let w = c.select.ensures in
+returns-in-Ok c =
+    let p = c.args.page.now in
+    let ws = c.args.table.now in
+    let h = c.args.h in
+    let lent = c.in-Ok.ensures.lent in
+    let node = rw lent.1 at c.row-last.ensures.node in
+    let last : c.row-last.result.last ≡ last_at ws h = ap (λ (n : Node). n.last) node in
+    let below : c.row-last.result.last + 1 - (h + 1) ≡ last_at ws h - h = omega arith in
+    let w = rw (lent.0, lent.1, below, add-one) at c.select.ensures in
+    let found = selected (below_tag is_white p ws c.args.s.now h) c.args.s.now (length c.args.out.now) in
+    let e = answered_tag p ws h found (was_fine_tag p ws h (sym c.in-Ok.ensures.answer)) in
     record { is = w.is ∙ sym e; left = w.left ∙ rw (e, w.is) }

@@ -3,6 +3,7 @@ use mathlib.Core.Path.{◌≡◌, sym, ap₂, ◌∙◌}
 use mathlib.Core.Bool.{Bool, false, ◌||◌}
 use mathlib.Core.List.{List}
 use Prim.Native.Nat.{ℕ}
+use native.Mathlib.Omega.{arith}
 use borrow.Author.Tests.{ne_eqb}
 use lib.ListN.{length}
 use Rattle.rules.specs.Names.{one_of, void_names, is_void}
@@ -18,40 +19,39 @@ infixl 40 ◌or◌
 ◌or◌ : {a b c d : Bool} → a ≡ b → c ≡ d → (a || c) ≡ (b || d)
 p or q = ap₂ ◌||◌ p q
 
--- f is where the length was tested
-pub returns-then-n-eq2 : goal.returns-then-n-eq2
+pub returns-in-2 : goal.returns-in-2
 unfolding or_any of_length
-returns-then-n-eq2 c = (c.is_same.ensures or c.is_same-then-n-eq2.ensures) ∙ as_long 2 c.args.x.now c.if-n-eq2.true
+returns-in-2 c = (c.is_same.ensures or c.is_same-in-2.ensures) ∙ as_long 2 c.args.x.now c.in-2.is
 
-pub returns-then-n-eq3 : goal.returns-then-n-eq3
+pub returns-in-3 : goal.returns-in-3
 unfolding or_any of_length
-returns-then-n-eq3 c = (c.is_same-then-n-eq3.ensures or c.is_same-then-n-eq3-2.ensures or c.is_same-then-n-eq3-3.ensures)
-    ∙ as_long 3 c.args.x.now c.if-n-eq3.true
+returns-in-3 c = (c.is_same-in-3.ensures or c.is_same-in-3-2.ensures or c.is_same-in-3-3.ensures)
+    ∙ as_long 3 c.args.x.now c.in-3.is
 
-pub returns-then-n-eq4 : goal.returns-then-n-eq4
+pub returns-in-4 : goal.returns-in-4
 unfolding or_any of_length
-returns-then-n-eq4 c = (c.is_same-then-n-eq4.ensures or c.is_same-then-n-eq4-2.ensures or c.is_same-then-n-eq4-3.ensures or c.is_same-then-n-eq4-4.ensures)
-    ∙ as_long 4 c.args.x.now c.if-n-eq4.true
+returns-in-4 c = (c.is_same-in-4.ensures or c.is_same-in-4-2.ensures or c.is_same-in-4-3.ensures or c.is_same-in-4-4.ensures)
+    ∙ as_long 4 c.args.x.now c.in-4.is
 
-pub returns-then-n-eq5 : goal.returns-then-n-eq5
+pub returns-in-5 : goal.returns-in-5
 unfolding or_any of_length
-returns-then-n-eq5 c = (c.is_same-then-n-eq5.ensures or c.is_same-then-n-eq5-2.ensures or c.is_same-then-n-eq5-3.ensures or c.is_same-then-n-eq5-4.ensures)
-    ∙ as_long 5 c.args.x.now c.if-n-eq5.true
+returns-in-5 c = (c.is_same-in-5.ensures or c.is_same-in-5-2.ensures or c.is_same-in-5-3.ensures or c.is_same-in-5-4.ensures)
+    ∙ as_long 5 c.args.x.now c.in-5.is
 
-pub returns-then-n-eq6 : goal.returns-then-n-eq6
+pub returns-in-6 : goal.returns-in-6
 unfolding or_any of_length
-returns-then-n-eq6 c = (c.is_same-then-n-eq6.ensures or c.is_same-then-n-eq6-2.ensures)
-    ∙ as_long 6 c.args.x.now c.if-n-eq6.true
+returns-in-6 c = (c.is_same-in-6.ensures or c.is_same-in-6-2.ensures)
+    ∙ as_long 6 c.args.x.now c.in-6.is
 
 -- no name has another length
-pub returns : goal.returns
+pub returns-in_default : goal.returns-in_default
 unfolding of_length one_of
-returns c = let x = c.args.x.now in
+returns-in_default c = let x = c.args.x.now in
     simp (
       of_length_lem x void_names,
-      ne_eqb (length x) 2 c.if-n-eq2.false,
-      ne_eqb (length x) 3 c.if-n-eq3.false,
-      ne_eqb (length x) 4 c.if-n-eq4.false,
-      ne_eqb (length x) 5 c.if-n-eq5.false,
-      ne_eqb (length x) 6 c.if-n-eq6.false,
+      ne_eqb (length x) 2 (λ e. omega arith),
+      ne_eqb (length x) 3 (λ e. omega arith),
+      ne_eqb (length x) 4 (λ e. omega arith),
+      ne_eqb (length x) 5 (λ e. omega arith),
+      ne_eqb (length x) 6 (λ e. omega arith),
     )

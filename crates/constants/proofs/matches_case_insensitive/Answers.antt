@@ -1,15 +1,24 @@
--- `constants::matches_case_insensitive` meets its contract: the lists agree where they agree from i on.
-use Rattle.rules.proofs.Names.{agree_again, agree_stopped, agree_ended, agree_uneven}
+-- `constants::matches_case_insensitive` meets its contract: the lists are as long, and each pair of bytes agrees; or they are not as long.
+use mathlib.Core.Path.{◌∙◌}
+use Prim.Native.Nat.{ℕ}
+use lib.Dec.{eqb}
+use borrow.Author.Tests.{ne_eqb}
+use Rattle.std.proofs.Common.{rules, tests}
+use Rattle.std.proofs.lemmas.Iterator.{YieldsList-from_slice, YieldsList-from_zip}
+use Rattle.std.proofs.lemmas.Iterator.Search.{all_from_yields_List}
+use Rattle.rules.specs.Lexer.{lower}
+use Rattle.rules.proofs.Names.{agree_uneven}
+use Rattle.constants.proofs.Pairs.{all_pairs}
 use Rattle.constants.proofs.matches_case_insensitive.Goals as goal
 
-pub returns-then-to_lower-y : goal.returns-then-to_lower-y
-returns-then-to_lower-y c = agree_stopped _ _ _ c.if-x-y.false _ c.loop-i.invariant _ c.loop-i-test.true c.to_lower.ensures c.if-to_lower-y.true
-
-pub loop-i-preserved : goal.loop-i-preserved
-loop-i-preserved c = agree_again _ _ _ c.if-x-y.false _ c.loop-i.invariant _ c.loop-i-test.true c.to_lower.ensures c.if-to_lower-y.false
-
 pub returns-then-x-y : goal.returns-then-x-y
-returns-then-x-y c = search agree_uneven
+returns-then-x-y c =
+    let x = c.args.x.now in
+    let y = c.args.y.now in
+    all_from_yields_List {s = c.zip.result} (λ (p : ℕ × ℕ). eqb (lower p.0) p.1) c.all.new.self _ _ c.all.ensures.ran
+    (YieldsList-from_zip (YieldsList-from_slice x (cc)) (YieldsList-from_slice y (cc))) (λ p b q k. search (rules, tests))
+    ∙ all_pairs lower x y c.if-x-y.true
 
-pub returns : goal.returns
-returns c = search agree_ended
+pub returns-else-x-y : goal.returns-else-x-y
+returns-else-x-y c =
+    ne_eqb _ _ c.if-x-y.false ∙ agree_uneven lower _ _ c.if-x-y.false

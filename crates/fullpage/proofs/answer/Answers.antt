@@ -1,16 +1,15 @@
--- `fullpage::answer` meets its contract: the page that is asked for is filled in, or `refused` is put.
+-- `fullpage::answer` meets its contract: the page that is asked for has room, and is filled in.
 use native.Mathlib.Omega.{arith}
-use mathlib.Core.Path.{sym, ◌∙◌}
-use Rattle.fullpage.proofs.Writing.{asked_short, writes_all, page_put}
+use mathlib.Core.Path.{sym}
+use Rattle.fullpage.proofs.Writing.{asked_short, page_put, room_for}
 use Rattle.fullpage.proofs.answer.Goals as goal
 
-pub returns-in_default : goal.returns-in_default
-returns-in_default c = rw (← c.asked.ensures, c.in_default.is)
-    (writes_all c.put.ensures (omega (arith, c.requires)))
-
 pub slice_bounds-fill-end : goal.slice_bounds-fill-end
-slice_bounds-fill-end c = omega (arith, c.requires, asked_short c.args.s.now c.in-Of.n (sym c.asked.ensures ∙ c.in-Of.is))
+slice_bounds-fill-end c = omega (arith, asked_short c.args.s.now c.in-Some.n (sym c.in-Some.ensures))
+
+pub slice_bounds-fill-end-2 : goal.slice_bounds-fill-end-2
+slice_bounds-fill-end-2 c = room_for c.args.s.now c.args.out.now c.in-Some.n (sym c.in-Some.ensures) c.requires
 
 pub returns : goal.returns
-returns c = rw (← c.asked.ensures, c.in-Of.is)
-    (page_put c.args.out.now _ c.in-Of.n (omega (arith, c.requires, asked_short c.args.s.now c.in-Of.n (sym c.asked.ensures ∙ c.in-Of.is))) c.fill.ensures)
+returns c = let e = room_for c.args.s.now c.args.out.now c.in-Some.n (sym c.in-Some.ensures) c.requires in
+    rw (← c.in-Some.ensures) (page_put c.args.out.now _ c.in-Some.n (rw (← e) at c.fill.ensures))

@@ -8,10 +8,10 @@ use Rattle.lexer.proofs.read_doctype.Goals.{After-search_non_ident-e, After-skip
 
 -- the name ends in the page, and so does the white after it
 name_in : (c : After-search_non_ident-e) → c.search_non_ident-e.result ≤ length c.args.s.now
-name_in c = rw c.search_non_ident-e.ensures (skip_le is_ident c.args.s.now _ c.requires.1)
+name_in c = rw c.search_non_ident-e.ensures (skip_le is_ident c.args.s.now _ c.requires)
 
 white_in_lem : (c : After-skip_whitespaces-w) → c.skip_whitespaces-w.result ≤ length c.args.s.now
-white_in_lem c = rw c.skip_whitespaces-w.ensures (skip_le _ c.args.s.now _ ((rw c.search_non_ident-e.ensures (skip_le is_ident c.args.s.now _ c.requires.1))))
+white_in_lem c = rw c.skip_whitespaces-w.ensures (skip_le _ c.args.s.now _ ((rw c.search_non_ident-e.ensures (skip_le is_ident c.args.s.now _ c.requires))))
 
 pub slice_bounds-is_doctype-end : goal.slice_bounds-is_doctype-end
 slice_bounds-is_doctype-end c = name_in (goal.at.slice_bounds-is_doctype-end c).After-search_non_ident-e

@@ -1,5 +1,4 @@
 -- `lexer::read_tag` meets its contract: by the test for `/`.
-use borrow.Author.Rules.{rules}
 use native.Mathlib.Omega.{arith}
 use Rattle.rules.specs.Bytes.{is_ident, is}
 use Rattle.rules.proofs.Runs.{skip_le}
@@ -8,7 +7,7 @@ use Rattle.lexer.proofs.Markup.{tag_slash, tag_plain}
 use Rattle.lexer.proofs.read_tag.Goals as goal
 
 pub parse_attributes-a-requires : goal.parse_attributes-a-requires
-parse_attributes-a-requires c = (search rules, rw c.search_non_ident-e.ensures (skip_le is_ident c.args.s.now _ c.requires.1))
+parse_attributes-a-requires c = rw c.search_non_ident-e.ensures (skip_le is_ident c.args.s.now _ c.requires)
 
 pub overflow_add-a : goal.overflow_add-a
 overflow_add-a c = omega (arith, here_below (is 47) c.args.s.now _ _ c.is_at.ensures c.if-is_at.true)

@@ -1,11 +1,8 @@
 -- `lines::answer` meets its contract: each of the two answers has its text.
 use Rattle.lines.proofs.answer.Goals as goal
 
-pub listing-requires : goal.listing-requires
-listing-requires c = c.requires _ c.in-Count.is
+pub returns-in-Ok : goal.returns-in-Ok
+returns-in-Ok c = rw c.in-Ok.is c.listing.ensures
 
-pub returns-in-Count : goal.returns-in-Count
-returns-in-Count c = rw c.in-Count.is c.listing.ensures
-
-pub returns-in-Refused : goal.returns-in-Refused
-returns-in-Refused c = rw c.in-Refused.is c.refused.ensures
+pub returns-in-Err : goal.returns-in-Err
+returns-in-Err c = rw c.in-Err.is c.refused.ensures

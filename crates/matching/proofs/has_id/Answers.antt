@@ -1,12 +1,12 @@
--- `matching::has_id` meets its contract: only a tag is looked at.
-use borrow.Author.Tests.{eq-eqb, ne_eqb}
+-- `matching::has_id` meets its contract: of a tag, the id is compared.
+use borrow.Author.Tests.{eq-eqb}
+use Rattle.std.proofs.Common.{rules}
+use Rattle.rules.specs.Scan.{same}
+use Rattle.rules.proofs.Within.{same_within}
+use Rattle.matching.proofs.Openings.{passes_none}
 use Rattle.matching.proofs.has_id.Goals as goal
 
-pub returns-then-n-ne1 : goal.returns-then-n-ne1
-returns-then-n-ne1 c = rw (ne_eqb _ _ c.if-n-ne1.true)
-
-pub tag_has_id-requires : goal.tag_has_id-requires
-tag_has_id-requires c = let l = c.requires.1 c.if-n-ne1.false in (c.requires.0, l.0, l.1)
-
-pub returns : goal.returns
-returns c = rw (eq-eqb _ _ c.if-n-ne1.false) c.tag_has_id.ensures
+pub returns-then-n-eq1 : goal.returns-then-n-eq1
+returns-then-n-eq1 c =
+    let k = c.args.name.now in
+    rw (eq-eqb _ _ c.if-n-eq1.true) (c.has_value.ensures (λ v. same v k) (λ v b e. search rules) (passes_none k _ (same_within k)))

@@ -3,11 +3,11 @@ use native.Mathlib.Omega.{arith}
 use Rattle.maxnodes.proofs.Filling.{none_filled, byte_filled, all_filled}
 use Rattle.maxnodes.proofs.fill.Goals as goal
 
-pub loop-i-init : goal.loop-i-init
-loop-i-init c = none_filled c.args.out.now
+pub loop-byte-init : goal.loop-byte-init
+loop-byte-init c = none_filled c.args.out.now
 
-pub loop-i-preserved : goal.loop-i-preserved
-loop-i-preserved c = byte_filled c.following-b.result c.loop-i.invariant (omega arith) c.following-b.ensures
+pub loop-byte-preserved : goal.loop-byte-preserved
+loop-byte-preserved c = byte_filled c.following-b.result c.loop-byte.invariant (omega arith) c.following-b.ensures
 
 pub returns : goal.returns
-returns c = all_filled c.loop-i.invariant (omega arith)
+returns c = all_filled c.loop-byte.invariant (omega arith)

@@ -1,11 +1,13 @@
 -- `parser::finish` meets its contract: the open tags are settled, then the header is written.
+use mathlib.Core.Path.{◌≡◌}
+use Prim.Native.Nat.{pred}
 use native.Mathlib.Omega.{arith}
 use Rattle.rules.proofs.Table.{filled_size}
 use Rattle.parser.proofs.Answering.{held_end}
 use Rattle.parser.proofs.finish.Goals as goal
 
 pub overflow_cast-last : goal.overflow_cast-last
-overflow_cast-last c = omega (arith, c.before-last.ensures, c.requires.few)
+overflow_cast-last c = omega (arith, c.saturating_sub-last.ensures, c.requires.few)
 
 pub settle-requires : goal.settle-requires
 settle-requires c = let X = c.requires in
@@ -16,4 +18,5 @@ put_head-requires c = let F = c.requires.held.rows.filled in omega (arith, F.fit
 
 pub returns : goal.returns
 returns c = let len = c.args.len in
-    record { words = λ t hd R H. held_end H _ len c.before-last.ensures c.settle.ensures c.put_head.ensures }
+    let last : c.saturating_sub-last.result ≡ pred c.args.s.count = omega arith in
+    record { words = λ t hd R H. held_end H _ len last c.settle.ensures c.put_head.ensures }

@@ -1,32 +1,35 @@
--- `parser::parse_single` meets its contract: whatever reading was held at first, what is held now has k steps left of it.
+-- `parser::parse_single` meets its contract: whatever reading was held at first, what is held now has the rest of the steps left.
+use mathlib.Core.Path.{◌≡◌}
+use Prim.Native.Nat.{◌+◌, ◌-◌}
 use native.Mathlib.Omega.{arith}
-use borrow.Author.Tests.{not-true, not-false}
 use Rattle.parser.proofs.Readings.{item_fits, room_of, inner_of}
 use Rattle.parser.proofs.Running.{along_begin, along_on, run_ended, run_last, run_full}
 use Rattle.parser.proofs.parse_single.Goals as goal
 
-pub returns-then-page-at : goal.returns-then-page-at
-returns-then-page-at c = run_ended c.loop-k.invariant c.if-page-at.true
+pub loop-init : goal.loop-init
+loop-init c = let all : c.args.budget - 0 ≡ c.args.budget = omega arith in rw all along_begin
 
-pub put-r-requires : goal.put-r-requires
-put-r-requires c = let X = c.requires.1 in
-    let C = c.loop-k.invariant.came X.t X.hd X.R X.held X.good in (
-      room_of C.held C.good c.requires.2 c.if-page-at.false,
+pub returns-then-page-s : goal.returns-then-page-s
+returns-then-page-s c = run_ended c.loop.invariant c.if-page-s.true
+
+pub put-requires : goal.put-requires
+put-requires c = let X = c.requires.0 in
+    let C = c.loop.invariant.came X.t X.hd X.R X.held X.good in (
+      room_of C.held C.good c.requires.1 c.if-page-s.false,
       inner_of C.held C.good,
-      rw c.item_at-item.ensures (item_fits _ c.args.page.now _ c.if-page-at.false),
-      c.requires.2,
+      rw c.item_at-item.ensures (item_fits _ c.args.page.now _ c.if-page-s.false),
+      c.requires.1,
     )
 
-pub returns-then-not-r : goal.returns-then-not-r
-returns-then-not-r c = run_full c.loop-k.invariant c.loop-k-test.true c.if-page-at.false c.item_at-item.ensures c.put-r.ensures
-    (not-true _ c.if-not-r.true)
+pub returns-in_err-s : goal.returns-in_err-s
+returns-in_err-s c = rw c.from_residual.ensures
+    (run_full c.loop.invariant (omega arith) c.if-page-s.false c.item_at-item.ensures c.put.ensures c.in_err-s.was)
 
-pub loop-k-preserved : goal.loop-k-preserved
-loop-k-preserved c = along_on c.loop-k.invariant c.loop-k-test.true c.if-page-at.false c.item_at-item.ensures c.put-r.ensures
-    (not-false _ c.if-not-r.false) c.put-r.auto.table
+pub loop-preserved : goal.loop-preserved
+loop-preserved c =
+    let one : c.args.budget - (c.loop.counter + 1) ≡ (c.args.budget - c.loop.counter) - 1 = omega arith in
+    rw one
+    (along_on c.loop.invariant (omega arith) c.if-page-s.false c.item_at-item.ensures c.put.ensures c.in_ok-s.was c.put.auto.table)
 
 pub returns : goal.returns
-returns c = run_last c.loop-k.invariant (omega arith)
-
-pub loop-k-init : goal.loop-k-init
-loop-k-init c = along_begin
+returns c = run_last c.loop.invariant (omega arith)

@@ -1,8 +1,5 @@
--- `piece::piece_at` meets its contract: the part that is lent is the piece's six words.
-use native.Mathlib.Omega.{arith}
-use mathlib.Core.Path.{◌≡◌, ◌∙◌, ap}
-use Prim.Native.Nat.{ℕ, ◌+◌, ◌-◌, ◌*◌}
-use lib.ListN.{take, drop}
+-- `piece::piece_at` meets its contract: the part that is read is the piece's six words.
+use Rattle.std.proofs.Common.{◌≡◌, ◌+◌, ◌-◌, ◌*◌, ℕ, arith, ap, take, drop}
 use Rattle.piece.specs.Words.{piece_words, piece_of, piece_at}
 use Rattle.piece.proofs.piece_at.Goals as goal
 
@@ -10,4 +7,4 @@ pub returns : goal.returns
 unfolding piece_at
 returns c = let a : ℕ = piece_words * c.args.i in
     let six : a + 6 - a ≡ 6 = omega arith in
-    c.read_piece.ensures ∙ ap (λ (k : ℕ). piece_of (take k (drop a c.args.words.now))) six
+    rw (c.simple_from.ensures, c.joiner_from.ensures) (ap (λ (k : ℕ). piece_of (take k (drop a c.args.words.now))) six)

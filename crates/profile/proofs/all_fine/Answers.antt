@@ -9,15 +9,13 @@ use Rattle.profile.proofs.all_fine.Goals as goal
 
 pub loop-i-init : goal.loop-i-init
 unfolding all
-loop-i-init c = (omega arith, c.numbers_fine-ok.ensures ∙ sym (and-true (numbers_fine c.args.profile.now)))
+loop-i-init c = c.numbers_fine-ok.ensures ∙ sym (and-true (numbers_fine c.args.profile.now))
 
 pub loop-i-preserved : goal.loop-i-preserved
 unfolding all
-loop-i-preserved c = let q = c.args.profile.now in (
-  omega arith,
-  rw (add-one, c.name_fine-ok.ensures, c.loop-i.invariant.1) (and_assoc (numbers_fine q) (all (name_fine q) c.loop-i.i) (name_fine q c.loop-i.i)),
-)
+loop-i-preserved c = let q = c.args.profile.now in
+    rw (add-one, c.name_fine-ok.ensures, c.loop-i.invariant) (and_assoc (numbers_fine q) (all (name_fine q) c.loop-i.i) (name_fine q c.loop-i.i))
 
 pub returns : goal.returns
 unfolding profile_fine
-returns c = let l = c.loop-i in let e : l.i ≡ 24 = omega (arith, c.loop-i-test.false) in rw e at l.invariant.1
+returns c = let l = c.loop-i in let e : l.i ≡ 24 = omega (arith, c.loop-i-test.false) in rw e at l.invariant

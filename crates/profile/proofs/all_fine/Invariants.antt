@@ -1,13 +1,9 @@
 -- `profile::all_fine` meets its contract: the numbers and the names before i are fine.
 use mathlib.Core.Path.{◌≡◌}
 use mathlib.Core.Bool.{◌&&◌}
-use Prim.Native.Nat.{◌≤◌, ◌-◌}
 use Rattle.rules.specs.Sound.{all}
 use Rattle.rules.specs.Profile.{name_fine, numbers_fine}
 use Rattle.profile.proofs.all_fine.Given as goal
 
 abbrev pub invariant-loop-i : goal.invariant-loop-i
-invariant-loop-i l = (l.i ≤ 24) × (l.ok ≡ (numbers_fine l.profile && all (name_fine l.profile) l.i))
-
-abbrev pub decreases-loop-i : goal.decreases-loop-i
-decreases-loop-i l = 24 - l.i
+invariant-loop-i l = l.ok ≡ (numbers_fine l.profile && all (name_fine l.profile) l.i)

@@ -10,7 +10,7 @@ use Rattle.rules.specs.Scan.{part}
 use Rattle.rules.specs.Profile.{void_of}
 use Rattle.profile.proofs.Slots.{slot_part, ahead_first, ahead_next, one_hit, none_hit}
 use Rattle.profile.proofs.is_listed.Goals as goal
-use Rattle.profile.proofs.is_listed.Goals.{After-wide-i-in-loop-i}
+use Rattle.profile.proofs.is_listed.Goals.{After-from-i-in-loop-i}
 
 -- the name is not empty
 some : (p : List ℕ) (a e : ℕ) → a < e → e ≤ length p → 0 < length (part p a e)
@@ -27,7 +27,7 @@ loop-i-init c = let a = c.args in
     let p = a.page.now in
     let h = c.requires.2 in
     let l : a.a < a.e = omega (arith, c.requires.0, c.if-a-e.false) in
-    let e = c.wide-i.ensures.0 in (
+    let e = c.from-i.ensures in (
       omega (arith, e, h.filled.slots c.slot-s.result c.slot-s.ensures.1),
       rw (e, c.slot-s.ensures.0, slot_part p a.a a.e l c.requires.1)
           (ahead_first a.profile.now a.heads.now (part p a.a a.e) h (some p a.a a.e l c.requires.1)),
@@ -39,7 +39,7 @@ is_name-requires c = let i = c.loop-i.i in
       search rules,
       omega (arith, c.loop-i.invariant.0, c.loop-i-test.true),
       c.requires.2.fine,
-      c.wide-m.ensures.0 ∙ ap (λ (k : ℕ). get_or c.args.heads.now k 0) z
+      c.from-m.ensures ∙ ap (λ (k : ℕ). get_or c.args.heads.now k 0) z
           ∙ c.requires.2.filled.lengths (i - 1) (omega (arith, c.loop-i.invariant.0, c.loop-i-test.true)),
       omega (arith, c.requires.0, c.if-a-e.false),
       c.requires.1,
@@ -55,18 +55,18 @@ returns-then-is_name c = let a = c.args in
     (one_hit a.profile.now a.heads.now x k (omega (arith, c.loop-i.invariant.0, c.loop-i-test.true)) (sym c.is_name.ensures ∙ c.if-is_name.true)))
 
 -- what the link holds
-next_is : (c : After-wide-i-in-loop-i) → let a = c.args in
-    c.wide-i-in-loop-i.result ≡ get_or a.heads.now (256 + (c.loop-i.i - 1)) 0
+next_is : (c : After-from-i-in-loop-i) → let a = c.args in
+    c.from-i-in-loop-i.result ≡ get_or a.heads.now (256 + (c.loop-i.i - 1)) 0
 next_is c =
     let a = c.args in
     let z : 256 + c.loop-i.i - 1 ≡ 256 + (c.loop-i.i - 1) = omega (arith, c.loop-i-test.true) in
-    c.wide-i-in-loop-i.ensures.0 ∙ ap (λ (k : ℕ). get_or a.heads.now k 0) z
+    c.from-i-in-loop-i.ensures ∙ ap (λ (k : ℕ). get_or a.heads.now k 0) z
 
 pub loop-i-smaller : goal.loop-i-smaller
 loop-i-smaller c =
     omega (
       arith,
-      next_is (goal.at.loop-i-smaller c).After-wide-i-in-loop-i,
+      next_is (goal.at.loop-i-smaller c).After-from-i-in-loop-i,
       c.loop-i-test.true,
       c.requires.2.filled.links (c.loop-i.i - 1) (omega (arith, c.loop-i.invariant.0, c.loop-i-test.true)),
     )
@@ -77,11 +77,11 @@ loop-i-preserved c = let a = c.args in
     let i = c.loop-i.i in (
       omega (
         arith,
-        next_is (goal.at.loop-i-preserved c).After-wide-i-in-loop-i,
+        next_is (goal.at.loop-i-preserved c).After-from-i-in-loop-i,
         c.loop-i.invariant.0,
         c.requires.2.filled.links (i - 1) (omega (arith, c.loop-i.invariant.0, c.loop-i-test.true)),
       ),
-      rw (next_is (goal.at.loop-i-preserved c).After-wide-i-in-loop-i)
+      rw (next_is (goal.at.loop-i-preserved c).After-from-i-in-loop-i)
           (ahead_next a.profile.now a.heads.now x i c.loop-i.invariant.1 (sym c.is_name.ensures ∙ c.if-is_name.false)),
     )
 

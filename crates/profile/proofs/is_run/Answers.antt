@@ -5,13 +5,13 @@ use native.Mathlib.Omega.{arith}
 use Rattle.rules.specs.Sound.{all}
 use Rattle.profile.proofs.is_run.Goals as goal
 
-pub loop-j-preserved : goal.loop-j-preserved
-unfolding all
-loop-j-preserved c = (omega arith, rw (add-one, c.loop-j.invariant.1))
-
-pub returns : goal.returns
-returns c = let l = c.loop-j in let e : l.j ≡ c.args.k = omega (arith, c.loop-j-test.false) in rw e at l.invariant.1
-
 pub loop-j-init : goal.loop-j-init
 unfolding all
-loop-j-init c = (omega arith, refl)
+loop-j-init c = refl
+
+pub loop-j-preserved : goal.loop-j-preserved
+unfolding all
+loop-j-preserved c = rw (add-one, c.loop-j.invariant)
+
+pub returns : goal.returns
+returns c = let l = c.loop-j in let e : l.j ≡ c.args.k = omega (arith, c.loop-j-test.false) in rw e at l.invariant

@@ -8,20 +8,17 @@ use Rattle.profile.proofs.name_len.Goals as goal
 
 pub returns-then-profile-a-eq0 : goal.returns-then-profile-a-eq0
 returns-then-profile-a-eq0 c = let q = c.args.profile.now in
-    let v = c.loop-n.invariant in
-    (name_ends q c.requires.0 c.args.i c.requires.1 (fine_facts q c.requires.2) c.loop-n.n v.0 v.1 (λ h. c.if-profile-a-eq0.true), v.0)
+    let n = c.loop-n.n in
+    (name_ends q c.requires.0 c.args.i c.requires.1 (fine_facts q c.requires.2) n (omega arith) c.loop-n.invariant (λ h. c.if-profile-a-eq0.true), omega arith)
 
 pub loop-n-preserved : goal.loop-n-preserved
-loop-n-preserved c = let e : c.loop-n.n + 1 - 1 ≡ c.loop-n.n = omega arith in
-    (omega arith, λ p. rw e c.if-profile-a-eq0.false)
+loop-n-preserved c = let e : c.loop-n.n + 1 - 1 ≡ c.loop-n.n = omega arith in λ p. rw e c.if-profile-a-eq0.false
 
 pub returns : goal.returns
 returns c = let q = c.args.profile.now in
-    let n = c.loop-n.n in (
-      name_ends q c.requires.0 c.args.i c.requires.1 (fine_facts q c.requires.2) n c.loop-n.invariant.0 c.loop-n.invariant.1
-          (λ h. absurd (omega (arith, c.loop-n-test.false))),
-      c.loop-n.invariant.0,
-    )
+    let e : c.loop-n.n ≡ 16 = omega (arith, c.loop-n-test.false) in
+    let last = rw e at c.loop-n.invariant in
+    (name_ends q c.requires.0 c.args.i c.requires.1 (fine_facts q c.requires.2) 16 (omega arith) last (λ h. absurd (omega arith)), omega arith)
 
 pub loop-n-init : goal.loop-n-init
-loop-n-init c = (omega arith, λ p. absurd (omega arith))
+loop-n-init c = λ p. absurd (omega arith)

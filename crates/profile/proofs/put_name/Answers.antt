@@ -6,12 +6,12 @@ use Rattle.profile.proofs.Slots.{slot_name, put_none, put_some}
 use Rattle.profile.proofs.put_name.Goals as goal
 
 pub returns-then-n-eq0 : goal.returns-then-n-eq0
-returns-then-n-eq0 c = let k = c.wide-k.ensures.0 in
+returns-then-n-eq0 c = let k = c.from-k.ensures in
     let z = c.if-n-eq0.true in
     rw (k, z) (put_none c.requires.2 c.requires.0 (rw (k, z) at c.name_len-n.ensures.0))
 
 pub returns : goal.returns
-returns c = let k = c.wide-k.ensures.0 in
+returns c = let k = c.from-k.ensures in
     let i = c.args.i in
     let e = rw k at c.name_len-n.ensures.0 in
     let F = fine_facts c.args.profile.now c.requires.1 in

@@ -1,6 +1,5 @@
 -- `scan::may_hold` meets its contract: where k stands, its first and last byte stand at their distance.
 use mathlib.Core.Path.{refl}
-use mathlib.Core.Bool.{true≢false}
 use native.Mathlib.Omega.{arith}
 use Rattle.scan.proofs.Pairs.{hold_none}
 use Rattle.scan.proofs.may_hold.Goals as goal
@@ -8,9 +7,3 @@ use Rattle.scan.proofs.may_hold.Goals as goal
 pub returns : goal.returns
 returns c = λ z w.
     hold_none c.args.s.now _ _ _ c.args.k.now c.args.from c.args.to (omega arith) (omega arith) refl refl refl (c.may_pair.ensures z) w
-
-pub returns-then-m-eq0 : goal.returns-then-m-eq0
-returns-then-m-eq0 c = λ z. absurd (true≢false z)
-
-pub returns-then-s-d-lt16 : goal.returns-then-s-d-lt16
-returns-then-s-d-lt16 c = λ z. absurd (true≢false z)

@@ -1,4 +1,4 @@
--- `scan::may_pair` meets its contract: no pair stands at the places up to i; the last 16 places overlap those passed before.
+-- No pair stands at the places up to i.
 use Prim.Native.Nat.{◌-◌}
 use Rattle.scan.specs.Pairs.{None, pair_at}
 use Rattle.scan.proofs.may_pair.Given as goal

@@ -2,26 +2,26 @@
 use Rattle.selector.proofs.Steps.{byte_within, attribute_end, attribute_bare, attribute_none, attribute_found, attribute_operator, attribute_other}
 use Rattle.selector.proofs.parse_attribute.Goals as goal
 
-pub returns-in_default : goal.returns-in_default
-returns-in_default c = search attribute_end
+pub returns-in_err-b : goal.returns-in_err-b
+returns-in_err-b c = rw c.from_residual.ensures (search (attribute_end, c.in_err-b.was))
 
 pub read_operand-requires : goal.read_operand-requires
-read_operand-requires c = search byte_within
+read_operand-requires c = search (byte_within, c.in_ok-b.was)
 
-pub returns-in_default-read_operand : goal.returns-in_default-read_operand
-returns-in_default-read_operand c = search attribute_none
+pub returns-in_err-value-in-61 : goal.returns-in_err-value-in-61
+returns-in_err-value-in-61 c = rw c.from_residual-in_err-value-in-61.ensures (search (attribute_none, c.in_ok-b.was, c.in_err-value-in-61.was))
 
 pub read_operator-requires : goal.read_operator-requires
-read_operator-requires c = search byte_within
+read_operator-requires c = search (byte_within, c.in_ok-b.was)
 
 pub returns-in-93 : goal.returns-in-93
-returns-in-93 c = search attribute_bare
+returns-in-93 c = search (attribute_bare, c.in_ok-b.was)
 
-pub returns-in-Part : goal.returns-in-Part
-returns-in-Part c = search attribute_found
+pub returns-in_ok-value-in-61 : goal.returns-in_ok-value-in-61
+returns-in_ok-value-in-61 c = search (attribute_found, c.in_ok-b.was, c.in_ok-value-in-61.was)
 
 pub returns-in-126 : goal.returns-in-126
-returns-in-126 c = search attribute_operator
+returns-in-126 c = search (attribute_operator, c.in_ok-b.was)
 
-pub returns-in_default-b : goal.returns-in_default-b
-returns-in_default-b c = search attribute_other
+pub returns-in_default : goal.returns-in_default
+returns-in_default c = search (attribute_other, c.in_ok-b.was)

@@ -1,4 +1,5 @@
 -- `sound::row_sound` meets its contract: what the row says of itself and of its parent decides (`next_is`).
+use Rattle.std.proofs.Common.{Some, None}
 use borrow.Author.Tests.{eq-eqb, ne_eqb}
 use native.Mathlib.Omega.{arith}
 use mathlib.Core.Path.{◌≡◌, refl, sym, ap, ◌∙◌}
@@ -7,7 +8,6 @@ use Prim.Native.Nat.{◌+◌}
 use Rattle.rules.specs.Scan.{pick}
 use Rattle.rules.specs.Sound.{tagged, parent_at}
 use Rattle.sound.specs.Row.{next_of}
-use Rattle.sound.specs.declared.Next.TheVariants.{From, Unsound}
 use Rattle.sound.proofs.Rows.{own_of, next_is, own_parent, own_last}
 use Rattle.sound.proofs.row_sound.Goals as goal
 use Rattle.sound.proofs.row_sound.Goals.{After-under}
@@ -29,7 +29,7 @@ under-requires c = let a = c.args in
 module _ (c : After-under) where
   decided : {b : Bool} (t : Bool) → c.under.result ≡ b → tagged c.row_at-n.result ≡ t
       → (let a = c.args in
-      pick b (From (pick t (a.h + 1) (parent_at a.table.now a.h))) Unsound ≡ next_of a.len a.table.now a.count a.h)
+      pick b (Some (pick t (a.h + 1) (parent_at a.table.now a.h))) None ≡ next_of a.len a.table.now a.count a.h)
   decided t u k =
       let a = c.args in
       let right = c.if-not-own_sound.false in
@@ -46,4 +46,4 @@ pub returns : goal.returns
 returns c = let a = c.args in
     let right = c.if-not-under.false in
     let parent = own_parent a.len a.table.now a.count a.h c.row_at-n.result (sym c.under.ensures ∙ right) in
-    ap From parent ∙ decided (goal.at.returns c).After-under false right (ne_eqb _ 1 c.if-n-eq1.false)
+    ap Some parent ∙ decided (goal.at.returns c).After-under false right (ne_eqb _ 1 c.if-n-eq1.false)

@@ -9,15 +9,15 @@ use Rattle.sound.proofs.rows_sound.Goals as goal
 
 pub loop-h-init : goal.loop-h-init
 unfolding all
-loop-h-init c = (search rules, refl, record { low = search rules; same = refl })
+loop-h-init c = (refl, record { low = search rules; same = refl })
 
 pub row_sound-requires : goal.row_sound-requires
 row_sound-requires c = let a = c.args in
     let l = c.loop-h in
     let test = row_sound a.len a.table.now a.count in
     record {
-      h_lt_count = (omega arith, c.requires, l.invariant.2);
-      by_index = λ j b. row_parent a.len a.table.now a.count j (all_true test l.h j l.invariant.1 b);
+      h_lt_count = (omega arith, c.requires, l.invariant.1);
+      by_index = λ j b. row_parent a.len a.table.now a.count j (all_true test l.h j l.invariant.0 b);
     }
 
 pub returns-in_default : goal.returns-in_default
@@ -29,9 +29,9 @@ returns-in_default c = let a = c.args in
 pub loop-h-preserved : goal.loop-h-preserved
 loop-h-preserved c = let a = c.args in
     let l = c.loop-h in
-    let left = next_from_lem a.len a.table.now a.count l.h _ _ c.row_sound.ensures c.in-From.is in
-    (search rules, all_more (row_sound a.len a.table.now a.count) l.h l.invariant.1 left.0, left.1)
+    let left = next_from_lem a.len a.table.now a.count l.h _ _ c.row_sound.ensures c.in-Some.is in
+    (all_more (row_sound a.len a.table.now a.count) l.h l.invariant.0 left.0, left.1)
 
 pub returns : goal.returns
 returns c = let done : c.loop-h.h ≡ c.args.count = omega arith in
-    sym (rw done at c.loop-h.invariant.1)
+    sym (rw done at c.loop-h.invariant.0)

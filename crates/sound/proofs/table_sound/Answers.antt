@@ -31,5 +31,4 @@ returns c = let a = c.args in
     let head = sym c.head_sound.ensures ∙ c.if-not-head_sound.false in
     let ws = a.table.now in
     let fit : row_at (count_of ws) ≤ length ws = omega arith in
-    let rows = rw c.wide-count.ensures at c.rows_sound.ensures in
-    sym (sound_is a.len ws (le-leb _ _ c.if-table-lt-HEAD.false) head (le-leb _ _ fit) (sym rows))
+    sym (sound_is a.len ws (le-leb _ _ c.if-table-lt-HEAD.false) head (le-leb _ _ fit) (sym c.rows_sound.ensures))

@@ -1,7 +1,6 @@
--- `table::row_at` meets its contract: what `read_row` says of the row's part, said of the table.
-use mathlib.Core.Path.{◌∙◌}
+-- `table::row_at` meets its contract: what the row's part says, said of the table.
 use Rattle.table.proofs.Rows.{row_node}
 use Rattle.table.proofs.row_at.Goals as goal
 
 pub returns : goal.returns
-returns c = let a = c.args in c.read_row.ensures ∙ row_node a.table.now a.h
+returns c = let a = c.args in row_node a.table.now a.h

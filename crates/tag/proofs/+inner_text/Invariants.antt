@@ -9,11 +9,11 @@ use Rattle.tag.proofs.+inner_text.Given as goal
 
 -- the handles left in the range of h
 abbrev pub decreases-inner_text : goal.decreases-inner_text
-decreases-inner_text l = last_at l.table.now l.h - l.h
+decreases-inner_text l = last_at l.d.now.table.now l.h - l.h
 
 abbrev pub invariant-loop-k : goal.invariant-loop-k
 invariant-loop-k l =
-    Walk l.table l.h l.last l.k × Left l.initial.out l.at (inner_text l.page l.table l.h) l.out l.i (after l.page l.table l.h l.k)
+    Walk l.d.table.now l.h l.last l.k × Left l.initial.out l.at (inner_text l.d.page.now l.d.table.now l.h) l.out l.i (after l.d.page.now l.d.table.now l.h l.k)
 
 abbrev pub decreases-loop-k : goal.decreases-loop-k
 decreases-loop-k l = l.last - l.k

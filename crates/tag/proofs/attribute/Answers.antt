@@ -4,7 +4,7 @@ use Rattle.tag.proofs.Looks.{length_up_to, looked}
 use Rattle.tag.proofs.attribute.Goals as goal
 
 pub get-requires : goal.get-requires
-get-requires c = (c.requires.0, omega (arith, length_up_to c.args.page.now c.args.n c.requires.2))
+get-requires c = omega (arith, length_up_to c.args.page.now c.args.n c.requires.1)
 
 pub returns : goal.returns
-returns c = looked c.args.page.now c.args.n c.requires.2 _ _ _ c.get.ensures
+returns c = looked c.args.page.now c.args.n c.requires.1 _ _ _ c.get.ensures

@@ -3,5 +3,5 @@ use mathlib.Core.Path.{ap, sym}
 use Rattle.rules.specs.Lookup.{held_as}
 use Rattle.tag.proofs.held.Goals as goal
 
-pub returns-in-Given : goal.returns-in-Given
-returns-in-Given c = sym (ap (held_as c.args.bare) c.in-Given.is)
+pub returns-in-Some : goal.returns-in-Some
+returns-in-Some c = sym (ap (held_as c.args.bare) c.in-Some.is)

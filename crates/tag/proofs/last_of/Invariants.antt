@@ -1,16 +1,16 @@
--- `tag::last_of` meets its contract: the last of that name from `from` on is the last from i on, where `found` came before. Where the
--- name stands nowhere in the rest, that is `found`.
+-- `tag::last_of` meets its contract: the last of that name from `from` on is the last of those that are left, where `found` came before.
 use mathlib.Core.Path.{◌≡◌}
-use Prim.Native.Nat.{◌-◌, ◌≤◌}
-use lib.ListN.{length}
+use Rattle.rules.specs.Lookup.{attributes, last_of}
 use Rattle.rules.specs.declared.Held.TheVariants.{Absent}
+use lib.ListN.{length}
 use Rattle.scan.specs.Marks.{white_in}
-use Rattle.tag.proofs.Turns.{last}
+use Rattle.tag.specs.Tag.{left}
 use Rattle.tag.proofs.last_of.Given as goal
 
 abbrev pub invariant-loop-a : goal.invariant-loop-a
-invariant-loop-a l =
-    (l.i ≤ length l.page) × (last (white_in l.t) l.page l.name Absent l.from ≡ last (white_in l.t) l.page l.name l.found l.i)
-
-abbrev pub decreases-loop-a : goal.decreases-loop-a
-decreases-loop-a l = length l.page - l.i
+invariant-loop-a l = record {
+  marks : l.a-iterator.marks.now ≡ l.t;
+  page : l.a-iterator.page.now ≡ l.page;
+  same : last_of (white_in l.t) l.page l.name Absent (attributes (white_in l.t) l.page (length l.page) l.from)
+      ≡ last_of (white_in l.t) l.page l.name l.found (left l.a-iterator);
+}

@@ -3,4 +3,4 @@ use mathlib.Core.Path.{◌∙◌}
 use Rattle.tl.proofs.tl_get_element_by_id.Goals as goal
 
 pub returns : goal.returns
-returns c = c.found.ensures ∙ rw (c.get_element_by_id.ensures, c.manner_of-way.ensures)
+returns c = c.found.ensures ∙ rw (c.get_element_by_id.ensures, c.from-manner.ensures)

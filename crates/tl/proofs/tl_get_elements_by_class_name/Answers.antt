@@ -4,5 +4,5 @@ use Rattle.rules.specs.Refusals.{counted_numbers}
 use Rattle.tl.proofs.tl_get_elements_by_class_name.Goals as goal
 
 pub returns : goal.returns
-returns c = let e = rw c.manner_of-way.ensures at c.get_elements_by_class_name.ensures in
+returns c = let e = rw c.from-manner.ensures at c.get_elements_by_class_name.ensures in
     record { is = c.counted.ensures ∙ ap counted_numbers e.is; left = e.left }

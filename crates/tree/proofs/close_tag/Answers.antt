@@ -1,5 +1,6 @@
 -- `tree::close_tag` meets its contract: by the innermost open tag and its name.
-use mathlib.Core.Path.{refl}
+use Rattle.std.proofs.Common.{Some}
+use mathlib.Core.Path.{refl, ap}
 use Prim.Native.Nat.{◌<◌}
 use native.Mathlib.Omega.{arith}
 use Rattle.tree.proofs.Steps.{step_done, held_none, held_other, held_close}
@@ -8,7 +9,7 @@ use Rattle.tree.proofs.close_tag.Goals.{Else-inner-eq0}
 
 pub returns-then-inner-eq0 : goal.returns-then-inner-eq0
 returns-then-inner-eq0 c = let a = c.args in
-    step_done c.moved.ensures (λ t hd R H. held_none H a.page.now a.a a.e a.next c.if-inner-eq0.true)
+    step_done (ap Some c.moved.ensures) (λ t hd R H. held_none H a.page.now a.a a.e a.next c.if-inner-eq0.true)
 
 -- a tag is open
 some : (c : Else-inner-eq0) → 0 < c.args.s.inner
@@ -25,6 +26,6 @@ returns-then-has_name c = let a = c.args in
 
 pub returns : goal.returns
 returns c = let a = c.args in
-    step_done c.moved-2.ensures
+    step_done (ap Some c.moved-2.ensures)
     (λ t hd R H. held_other H a.page.now a.a a.e a.next (some (goal.at.returns c).Else-inner-eq0) c.row_at-n.ensures c.has_name.ensures
     c.if-has_name.false)

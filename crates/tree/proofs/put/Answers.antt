@@ -1,4 +1,5 @@
 -- `tree::put` meets its contract: by the item.
+use Rattle.std.proofs.Common.{Some}
 use mathlib.Core.Path.{sym, ap}
 use native.Mathlib.Omega.{arith}
 use Rattle.rules.specs.Names.{is_void}
@@ -33,7 +34,7 @@ unfolding put
 returns-in-Comment c = step_as (λ t hd R H. rw c.in-Comment.is) c.put_leaf-in-Comment.ensures
 
 pub returns-in-Doctype : goal.returns-in-Doctype
-returns-in-Doctype c = step_done c.set_version.ensures
+returns-in-Doctype c = step_done (ap Some c.set_version.ensures)
     (λ t hd R H. rw c.in-Doctype.is (held_version H c.args.page.now _ _))
 
 pub returns-in-Tag : goal.returns-in-Tag
@@ -42,4 +43,4 @@ returns-in-Tag c = step_as (λ t hd R H. ap (put is_void c.args.page.now R) (sym
 
 pub returns-in-Nothing : goal.returns-in-Nothing
 unfolding put
-returns-in-Nothing c = step_done c.moved.ensures (λ t hd R H. rw c.in-Nothing.is (held_moved H _))
+returns-in-Nothing c = step_done (ap Some c.moved.ensures) (λ t hd R H. rw c.in-Nothing.is (held_moved H _))

@@ -1,4 +1,5 @@
 -- `tree::put_tag` meets its contract: the row was written, or the reading has more nodes than there are rows.
+use Rattle.std.proofs.Common.{Some, ap}
 use mathlib.Core.Bool.{◌||◌}
 use Rattle.rules.specs.Scan.{part}
 use Rattle.rules.specs.Names.{is_void}
@@ -8,19 +9,19 @@ use Rattle.tree.proofs.put_tag.Goals as goal
 
 pub returns-then-shut : goal.returns-then-shut
 returns-then-shut c = let shut = c.if-shut.true in
-    step_done c.added.ensures
+    step_done (ap Some c.added.ensures)
     (λ t hd R H. held_tag H c.args.page.now _ (rw c.is_void_name.ensures at shut)
-    (rw (c.ended_new-ended.ensures, shut) at (c.register_tag.ensures.row c.if-register_tag.true)))
-
-pub returns-then-register_tag : goal.returns-then-register_tag
-returns-then-register_tag c = let opened = c.if-shut.false in
-    step_done c.added-then-register_tag.ensures
-    (λ t hd R H. held_tag H c.args.page.now _ (rw c.is_void_name.ensures at opened)
-    (rw (c.ended_new-ended.ensures, opened) at (c.register_tag.ensures.row c.if-register_tag.true)))
+    (rw (c.ended_new-ended.ensures, shut) at (c.register_tag.ensures.row c.if-not-register_tag.false)))
 
 pub returns : goal.returns
+returns c = let opened = c.if-shut.false in
+    step_done (ap Some c.added-2.ensures)
+    (λ t hd R H. held_tag H c.args.page.now _ (rw c.is_void_name.ensures at opened)
+    (rw (c.ended_new-ended.ensures, opened) at (c.register_tag.ensures.row c.if-not-register_tag.false)))
+
+pub returns-then-not-register_tag : goal.returns-then-not-register_tag
 unfolding put
-returns c = let a = c.args in
+returns-then-not-register_tag c = let a = c.args in
     step_full
     (λ t hd R H. full_next H (tag_node R a.a a.e a.next (a.slash || is_void (part a.page.now a.a a.e)))
-    (c.register_tag.ensures.full c.if-register_tag.false))
+    (c.register_tag.ensures.full c.if-not-register_tag.true))

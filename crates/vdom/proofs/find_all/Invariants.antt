@@ -1,13 +1,11 @@
--- `vdom::find_all` meets its contract: what was found among the first k handles stands at the front of the buffer (`Walked`).
-use Prim.Native.Nat.{◌-◌, ◌≤◌}
-use Rattle.scan.specs.Marks.{white_in}
-use Rattle.vdom.specs.Vdom.{row_asks}
+-- `vdom::find_all` meets its contract: what was found among the handles below h stands at the front of the buffer (`Walked`).
+use Rattle.std.proofs.Common.{◌≡◌, ℕ, Bool, ◌-◌}
+use Rattle.rules.specs.Table.{node_at}
+use Rattle.rules.specs.declared.Node.{Node}
 use Rattle.vdom.proofs.Walk.{Walked}
 use Rattle.vdom.proofs.find_all.Given as goal
 
-abbrev pub invariant-loop-k : goal.invariant-loop-k
-invariant-loop-k l =
-    (l.k ≤ l.count) × Walked (row_asks (white_in l.t) l.page l.s l.words l.pieces l.ask l.table) l.lo l.initial.out l.out l.n l.k
-
-abbrev pub decreases-loop-k : goal.decreases-loop-k
-decreases-loop-k l = l.count - l.k
+abbrev pub invariant-loop-h : goal.invariant-loop-h
+invariant-loop-h g l =
+    (P : Node → Bool) → ((n : Node) (b : Bool) → goal.F-post g l.test n b → b ≡ P n)
+    → Walked (λ h. P (node_at l.d.table.now h)) l.lo l.initial.out l.out l.n (l.h - l.lo)

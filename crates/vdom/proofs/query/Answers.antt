@@ -1,9 +1,13 @@
--- `vdom::query` meets its contract: the walk over all handles.
-use Rattle.vdom.proofs.Rows.{count_fits}
+-- `vdom::query` meets its contract: the walk over the handles.
+use Rattle.std.proofs.Common.{rules}
+use Rattle.rules.specs.Query.{node_fits, meaning}
+use Rattle.rules.specs.declared.Node.{Node}
+use Rattle.scan.specs.Marks.{white_in}
+use Rattle.piece.specs.Words.{pieces_from}
 use Rattle.vdom.proofs.query.Goals as goal
 
-pub row_count-count-requires : goal.row_count-count-requires
-row_count-count-requires c = count_fits c.args.page.now c.args.table.now c.requires.1
-
 pub returns : goal.returns
-returns c = rw c.row_count-count.ensures at c.find_all.ensures
+returns c =
+    let k = c.args.chain.now in
+    let P = λ (n : Node). meaning (node_fits (white_in c.args.t.now) c.args.d.now.page.now k.text.now n) (pieces_from k.pieces k.words.now 0) in
+    c.find_all.ensures P (λ n b e. search rules)

@@ -1,6 +1,0 @@
--- `replay::page_buffer` meets its contract: the law holds for any length, and so no list of that length is computed.
-use Rattle.replay.proofs.Sizes.{long}
-use Rattle.replay.proofs.page_buffer.Goals as goal
-
-pub returns : goal.returns
-returns c = long 65537 0
