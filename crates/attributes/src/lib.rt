@@ -16,7 +16,8 @@ ghost use Rattle.attributes.specs.Slots.{name_at, slot_of, many, Slotted, Alike}
 use rules::{Attribute, Held, Node};
 use scan::Marks;
 
-// What the slot of several names holds, and of one whose number is too large for a byte.
+// What the slot of several names holds, and of one whose number is too large for a byte. A slot is a byte and no enum, so that the 256
+// of them are cleared and looked up fast.
 const MANY: u8 = 255;
 
 // The longest opening that is looked through for what all names begin with before it is read.
@@ -58,7 +59,8 @@ fn note(words: &mut [u32], page: &[u8], a: Attribute, name: &[u8])
 
 // ---- the names
 
-// Names that stand in one text, each from the end of the one before up to its place in `ends`.
+// Names that stand in one text, each from the end of the one before up to its place in `ends`: two slices, as the C interface lends
+// them.
 #[derive(Clone, Copy)]
 pub struct Names<'a> {
     pub text: &'a [u8],

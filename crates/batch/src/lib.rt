@@ -312,11 +312,12 @@ fn put_text(s: &Skips, h: usize, out: &mut [u8], at: usize) -> Option<usize>
     let d = &s.tags.document;
     let last = d.row(h).last as usize;
     let mut i = at;
+    // A step passes the rows without text: there is no index to count.
     let mut k = s.next_text(h + 1);
     while k <= last {
         let text = tag::text_of(d.page, d.row(k));
         k = s.next_text(k + 1);
-        // to copy no bytes would cost more than this test
+        // a row without text costs this test alone
         if text.is_empty() {
             continue;
         }

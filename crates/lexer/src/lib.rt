@@ -72,7 +72,8 @@ pub fn starts_attribute(t: &Marks, s: &[u8], at: usize) -> bool
     }
 }
 
-// Where the attributes from a place on end: at a `/` or `>`, or at the end of the page.
+// Where the attributes from a place on end: at a `/` or `>`, or at the end of the page. An index, since a step is an attribute long:
+// the next place is the place after it.
 fn parse_attributes(t: &Marks, s: &[u8], from: usize) -> usize
     requires { from ≤ length s.now }
     ensures { let p = s.now in result ≡ attributes_end (white_in t.now) (length p) p from }

@@ -15,7 +15,7 @@ use rules::{Node, Refusal};
 use sound::Document;
 
 // A lent buffer, and the place after what was written into it. A byte that finds no room is not written, and the place then stays
-// one past the end.
+// one past the end: so one test at the end is enough. Numbers are written by itoa, which needs no heap.
 #[derive(Drop)]
 pub struct Writer<'a> {
     pub out: &'a mut [u8],

@@ -115,7 +115,7 @@ fn numbers_fine(profile: &[u8; 392]) -> bool
         & ((profile[4] <= 32) & (profile[5] <= 32) & (profile[6] <= 32) & (profile[7] <= 32))
 }
 
-// Whether the limit, the white bytes and the names are within their limits.
+// Whether the limit, the white bytes and the names are within their limits. It has no early exit either.
 fn all_fine(profile: &[u8; 392]) -> bool
     ensures { result ≡ profile_fine profile.now }
 {
@@ -133,7 +133,7 @@ fn is_tl(profile: &[u8; 392]) -> bool
     *profile == TL
 }
 
-// Whether the profile is within its limits; if not, it is refused as 14. tl's own costs a comparison alone.
+// Whether the profile is within its limits. tl's own costs a comparison alone.
 pub fn is_fine(profile: &[u8; 392]) -> bool
     ensures { result ≡ profile_fine profile.now }
 {
@@ -236,7 +236,7 @@ fn is_both(p: &[u8], a: usize, q: &[u8], c: usize, n: usize, k: usize, m: usize)
     is_run(p, a, q, c, k) & is_run(p, a + n - m, q, c + n - m, m)
 }
 
-// The same with k and m fixed by n, so that a short name is compared without a loop.
+// The same with k and m fixed by n, so that the loops over a short name are of a known length.
 fn is_bytes(p: &[u8], a: usize, q: &[u8], c: usize, n: usize) -> bool
     requires { (a + n ≤ length p.now) × (c + n ≤ length q.now) × (0 < n) }
     ensures { result ≡ same_run p.now a q.now c n }
@@ -272,7 +272,7 @@ fn is_name(profile: &[u8], i: usize, m: usize, page: &[u8], a: usize, e: usize) 
     is_bytes(page, a, profile, FIRST + PLACE * i, n)
 }
 
-// Whether the name from a to e is void: it is compared with the names of its slot.
+// Whether the name from a to e is void: it is compared with the names of its slot. The loop counts nothing: it follows their links.
 fn is_listed(profile: &[u8; 392], heads: &[u8; 305], page: &[u8], a: usize, e: usize) -> bool
     requires { (a ≤ e) × (e ≤ length page.now) × Listed profile.now heads.now }
     ensures { result ≡ void_of profile.now (part page.now a e) }

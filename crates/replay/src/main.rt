@@ -423,7 +423,8 @@ fn answer_at(
     })
 }
 
-// Answers one record after the other, until the input ends, and counts them; none if something stands there that is not a record.
+// Answers one record after the other, until the input ends, and counts them; none if something stands there that is not a record. The
+// place is no counter: a step is as long as its record.
 fn replay(rt: &HostRuntime, input: &[u8], buffers: &mut Buffers) -> Option<usize> {
     let mut at = 0;
     let mut count = 0;

@@ -7,7 +7,8 @@
 // A row of the table: `name` and `stop` are a tag's name start and name end, `opened` the place after its opening `>`. How a tag
 // ended: 0 it was open at the end of the page, 1 a closing tag with its `>` closed it, 2 one that the page's end cut short did,
 // 3 it was never opened, since its name is void or it ended in `/>`. Of texts and comments it is 0.
-// The kind is a number and no enum: it is a word of the table, which a caller of the C interface may have filled with anything.
+// The kind and how a tag ended are numbers and no enums: they are words of the table, which a caller of the C interface may have
+// filled with anything. So is the parent, 0 or its handle plus 1.
 #[derive(Clone, Copy)]
 pub struct Node {
     pub kind: u32,
@@ -63,7 +64,8 @@ pub enum Item {
     Nothing(usize),
 }
 
-// What a reader keeps: the place, the rows so far, the innermost open tag's handle plus 1, the version.
+// What a reader keeps: the place, the rows so far, the innermost open tag's handle plus 1, the version. The last two are kept as the
+// table's words, into which they go.
 #[derive(Clone, Copy)]
 pub struct State {
     pub at: usize,
@@ -72,7 +74,8 @@ pub struct State {
     pub version: u32,
 }
 
-// What a tag holds for an attribute name: nothing, the name without a value, or a part of the page.
+// What a tag holds for an attribute name: nothing, the name without a value, or a part of the page. Three cases with names, which an
+// option in an option would not have.
 #[derive(Clone, Copy)]
 pub enum Held {
     Absent,

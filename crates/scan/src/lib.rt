@@ -156,7 +156,7 @@ fn any16(s: &[u8], i: usize, q: u8) -> bool
 pub fn find(s: &[u8], at: usize, q: u8) -> usize
     ensures { result ≡ skip (other q) s.now at }
 {
-    // From a place before `top`, 16 bytes are left.
+    // From a place before `top`, 16 bytes are left. An index, as in may_pair.
     let top = s.len().saturating_sub(15);
     let mut i = at;
     while i < top && !any16(s, i, q) {

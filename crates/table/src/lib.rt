@@ -1,5 +1,4 @@
 // The table of nodes in a lent slice of words: a header, then a row for each node. It stands for tl's Vec of nodes.
-// What writes or reads a row is lent the row's own part of the table.
 
 #![tactic(auto)]
 

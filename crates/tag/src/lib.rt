@@ -195,14 +195,16 @@ pub fn text_length(d: &Document, h: usize) -> usize
     size
 }
 
-// Writes the bytes into out from `at` on, and answers the place after them.
+// Writes the bytes into out from `at` on, and answers the place after them. Byte by byte: with `copy_from_slice`, which calls the C
+// library, many short texts took up to half as long again.
 pub fn copy(bytes: &[u8], out: &mut [u8], at: usize) -> usize
     requires { at + length bytes.now ≤ length out.old }
     ensures { Wrote out.old at bytes.now out.new result }
 {
-    let end = at + bytes.len();
-    out[at..end].copy_from_slice(bytes);
-    end
+    for i in 0..bytes.len() {
+        out[at + i] = bytes[i];
+    }
+    at + bytes.len()
 }
 
 // The inner text by a flat walk over the range.
@@ -232,6 +234,7 @@ pub fn inner_text(d: &Document, h: usize, out: &mut [u8], at: usize, depth: usiz
     let last = d.row(h).last as usize;
     let mut i = at;
     let mut k = h;
+    // A step is as long as the child's range: there is no index to count.
     while k < last {
         // the first child is the next row, the next sibling the row after a child's last
         let child = k + 1;

@@ -1,5 +1,5 @@
 // The library for C and Rust programs: its exports. Each is the call of the crate tl that has its name, with that call's
-// promise. include/tl.h declares them.
+// promise: a crate is a library or a static library, so that they stand in both. include/tl.h declares them.
 
 #![tactic(auto)]
 
