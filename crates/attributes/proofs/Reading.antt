@@ -13,7 +13,7 @@ use Rattle.rules.specs.declared.Held.{Held}
 use Rattle.rules.specs.declared.Held.TheVariants.{Absent}
 use Rattle.rules.proofs.Lookup.{AllInside, attributes_inside}
 use Rattle.tag.proofs.Fuel.{from}
-use Rattle.tag.proofs.Turns.{Turn}
+use Rattle.tag.specs.Tag.{InPage}
 use Rattle.attributes.specs.Noting.{held_words, noted, NotesAll, Placed}
 use Rattle.attributes.proofs.Notes.{all_noted, all_noted_lem}
 use Rattle.attributes.proofs.Words.{names_absent, names_same}
@@ -23,10 +23,10 @@ inside_page n None l i = tt
 inside_page n (Some (a, e)) l i = (i.0, omega (arith, i.1))
 
 module _ (white : ℕ → Bool) (p : List ℕ) where
-  pub turn_placed : {i : ℕ} {a : Attribute} → length p ≤ page_limit → Turn white p i a → Placed (length p) a
-  turn_placed {i} {a} l t =
-      let all : AllInside white p (a ∷ from white p a.next) = rw t.cut at (attributes_inside white p (length p) i) in
-      record { name = t.name; stop = t.stop; value = inside_page (length p) a.value l all.0 }
+  pub placed : (i : ℕ) {a : Attribute} → from white p i ≡ a ∷ from white p a.next → InPage (length p) a → length p ≤ page_limit → Placed (length p) a
+  placed i {a} cut in_page l =
+      let all : AllInside white p (a ∷ from white p a.next) = rw cut at (attributes_inside white p (length p) i) in
+      record { name = in_page.name; stop = in_page.stop; value = inside_page (length p) a.value l all.0 }
 
   module _ (start : ℕ) (s es : List ℕ) where
     -- the attributes from `start` up to i were noted, and the words are w
@@ -48,14 +48,15 @@ module _ (white : ℕ → Bool) (p : List ℕ) where
         }
 
     module _ {i : ℕ} {w : List ℕ} (r : Reading i w) where
-      pub reading_more : {a : Attribute} → Turn white p i a → {w₁ : List ℕ} → length w₁ ≡ length w → NotesAll p a s es w w₁ → Reading a.next w₁
-      reading_more {a} t m notes =
+      pub reading_more : {a : Attribute} → from white p i ≡ a ∷ from white p a.next → InPage (length p) a → {w₁ : List ℕ} → length w₁ ≡ length w
+          → NotesAll p a s es w w₁ → Reading a.next w₁
+      reading_more {a} cut in_page {w₁} m notes =
           record {
-            inside = t.next;
+            inside = in_page.next;
             size = m ∙ r.size;
             held = λ k. noted p a k (r.held k);
             words = notes r.held r.words;
-            rest = λ k. sym (ap (all_noted p k (r.held k)) t.cut) ∙ r.rest k;
+            rest = λ k. sym (ap (all_noted p k (r.held k)) cut) ∙ r.rest k;
           }
 
       held_all : from white p i ≡ [] → (k : List ℕ) → r.held k ≡ lookup_from white p start k

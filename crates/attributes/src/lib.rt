@@ -4,7 +4,7 @@
 
 #![tactic(auto)]
 
-ghost use Rattle.std.specs.Prelude.{◌≡◌, false, [], ◌∷◌, suc, ◌*◌, ◌≤◌, ◌<◌, length, get_or, take, replicate};
+ghost use Rattle.std.specs.Prelude.{◌≡◌, false, ◌∷◌, suc, ◌*◌, ◌≤◌, ◌<◌, length, get_or, take, replicate};
 ghost use Rattle.rules.specs.Scan.{part};
 ghost use Rattle.rules.specs.Words.{Within};
 ghost use Rattle.rules.specs.Lookup.{Inside, lookup, lookup_from};
@@ -13,8 +13,9 @@ ghost use Rattle.scan.specs.Marks.{white_in};
 ghost use Rattle.attributes.specs.Noting.{Placed, held_words, Notes, NotesOne, NotesAll};
 ghost use Rattle.attributes.specs.Slots.{name_at, slot_of, many, Slotted, Alike};
 
-use rules::{Attribute, Held, Node};
+use rules::{Attribute, Held};
 use scan::Marks;
+use tag::Tag;
 
 // What the slot of several names holds, and of one whose number is too large for a byte. A slot is a byte and no enum, so that the 256
 // of them are cleared and looked up fast.
@@ -23,19 +24,15 @@ const MANY: u8 = 255;
 // The longest opening that is looked through for what all names begin with before it is read.
 const SHORT: usize = 16;
 
-// ---- the words of one name
+// ---- the words of one name: three, said as 3, as the promises do
 
 // Writes which of the three held, and where a value starts and ends.
 pub fn write_held(words: &mut [u32], held: Held)
     requires { (length words.old ≡ 3) × Inside page_limit held }
     ensures { words.new ≡ held_numbers held }
 {
-    let three = match held {
-        Held::Absent => [0, 0, 0],
-        Held::Bare => [1, 0, 0],
-        Held::Value(start, end) => [2, start as u32, end as u32],
-    };
-    words.copy_from_slice(&three);
+    let [which, start, end] = held.numbers();
+    words.copy_from_slice(&[which as u32, start as u32, end as u32]);
 }
 
 // The attribute a was read: if it has the name, its value may count. Of `id` and `class` the last counts, of other names the first.
@@ -51,6 +48,7 @@ fn note(words: &mut [u32], page: &[u8], a: Attribute, name: &[u8])
         let held = tag::held(Held::Absent, value);
         return write_held(words, held);
     }
+    // absent so far
     if words[0] == 0 {
         let held = tag::held(Held::Bare, value);
         write_held(words, held);
@@ -60,7 +58,7 @@ fn note(words: &mut [u32], page: &[u8], a: Attribute, name: &[u8])
 // ---- the names
 
 // Names that stand in one text, each from the end of the one before up to its place in `ends`: two slices, as the C interface lends
-// them.
+// them. They are taken by their number and not by an iterator, since the words and the slot of a name go by its number too.
 #[derive(Clone, Copy)]
 pub struct Names<'a> {
     pub text: &'a [u8],
@@ -106,12 +104,11 @@ impl<'a> Names<'a> {
             return &self.text[..0];
         }
         let first = &self.text[..2];
-        for j in 0..self.len() {
-            if !self.get(j).starts_with(first) {
-                return &self.text[..0];
-            }
+        if (0..self.len()).all(|j| self.get(j).starts_with(first)) {
+            first
+        } else {
+            &self.text[..0]
         }
-        first
     }
 }
 
@@ -162,7 +159,7 @@ pub struct Slots<'a> {
     ghost slotted: { Slotted names.text.now names.ends.now (length names.ends.now) of.now },
 }
 
-// ---- one attribute
+// ---- one attribute: it lies in the page, as each note of it asks, since it comes from a reading and not from a caller
 
 // Notes the attribute for name j.
 fn note_one(page: &[u8], a: Attribute, names: &Names, j: usize, out: &mut [u32])
@@ -175,7 +172,7 @@ fn note_one(page: &[u8], a: Attribute, names: &Names, j: usize, out: &mut [u32])
     note(&mut out[at..stop], page, a, names.get(j));
 }
 
-// Notes it for each name.
+// Notes it for each name in turn.
 fn note_each(page: &[u8], a: Attribute, names: &Names, out: &mut [u32])
     requires { (length out.old ≡ 3 * length names.now.ends.now) × Placed (length page.now) a }
     ensures { NotesAll page.now a names.now.text.now names.now.ends.now out.old out.new }
@@ -206,44 +203,29 @@ fn note_all(slots: &Slots, page: &[u8], a: Attribute, out: &mut [u32])
 
 // ---- one tag
 
-// Reads the attributes from `start` on once, and notes each.
-fn read_all(t: &Marks, slots: &Slots, page: &[u8], start: usize, out: &mut [u32])
-    requires inside { (start ≤ length page.now) × (length page.now ≤ page_limit) }
-    requires zeros { out.old ≡ replicate (3 * length slots.now.names.ends.now) 0 }
-    ensures { let held = lookup_from (white_in t.now) page.now start in
-        out.new ≡ held_words held slots.now.names.text.now slots.now.names.ends.now }
-{
-    let mut i = start;
-    while let Some(a) = tag::next_attribute(t, page, i) {
-        note_all(slots, page, a, out);
-        i = a.next;
-    }
-}
-
-// Whether the tag n may have one of the names, which all begin with `first`: where that does not stand in its opening it has none. In a
+// Whether the tag may have one of the names, which all begin with `first`: where that does not stand in its opening it has none. In a
 // long opening it mostly stands, and looking for it does not pay.
-pub fn may_have_any(page: &[u8], n: Node, first: &[u8]) -> bool
-    requires { (n.stop < n.opened) × (n.opened ≤ length page.now) }
-    ensures { result ≡ false → Within first.now (part page.now n.stop n.opened) → ⊥ }
+pub fn may_have_any(tag: &Tag, first: &[u8]) -> bool
+    ensures { let n = tag.now.node in
+        result ≡ false → Within first.now (part tag.now.page.now n.stop n.opened) → ⊥ }
 {
-    let stop = n.stop as usize;
-    let opened = n.opened as usize;
-    let room = opened - stop;
-    SHORT < room || room < first.len() || scan::may_hold(page, stop, opened, first)
+    SHORT < tag.room() || tag.may_have(first)
 }
 
-// What the tag n of the page holds for each name, into words that are lent all zero. The names all begin with `first`.
-pub fn attributes(t: &Marks, slots: &Slots, page: &[u8], n: Node, first: &[u8], out: &mut [u32])
-    requires inside { (n.stop < n.opened) × (n.opened ≤ length page.now) × (length page.now ≤ page_limit) }
+// What the tag holds for each name, into words that are lent all zero. The names all begin with `first`.
+pub fn attributes(t: &Marks, slots: &Slots, tag: &Tag, first: &[u8], out: &mut [u32])
+    requires inside { length tag.now.page.now ≤ page_limit }
     requires alike { Alike slots.now.names.text.now slots.now.names.ends.now first.now }
     requires zeros { out.old ≡ replicate (3 * length slots.now.names.ends.now) 0 }
-    ensures { let held = lookup (white_in t.now) page.now n in
+    ensures { let held = lookup (white_in t.now) tag.now.page.now tag.now.node in
         out.new ≡ held_words held slots.now.names.text.now slots.now.names.ends.now }
 {
-    if !may_have_any(page, n, first) {
+    if !may_have_any(tag, first) {
         return;
     }
-    let stop = n.stop as usize;
-    let opened = n.opened as usize;
-    read_all(t, slots, &page[..opened], stop, out);
+    let attributes = tag.attributes(t);
+    let page = attributes.page;
+    for a in attributes {
+        note_all(slots, page, a, out);
+    }
 }

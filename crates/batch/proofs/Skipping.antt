@@ -1,4 +1,6 @@
 -- The walk over the rows with text, and how the places for it are filled.
+use Rattle.std.proofs.Common.{Option, Some, None}
+use Rattle.std.specs.Option.{MatchOption, unwrap_or}
 use mathlib.Core.Path.{◌≡◌, refl, ap, sym, ◌∙◌}
 use mathlib.Core.List.{List, [], ◌∷◌, ◌++◌}
 use mathlib.Core.Bool.{true, ◌&&◌}
@@ -15,7 +17,7 @@ use Rattle.rules.specs.Sound.{last_at}
 use Rattle.rules.specs.Text.{text_at, inner_text}
 use Rattle.rules.specs.declared.Node.{Node}
 use Rattle.rules.proofs.Pick.{cases}
-use Rattle.rules.proofs.Sound.{and_left, and_right}
+use Rattle.std.proofs.lemmas.Bool.{and_parts}
 use Rattle.rules.proofs.Text.{text_from, text_all, text_none, text_next}
 use Rattle.tag.specs.Tag.{text_of}
 use Rattle.batch.specs.Batch.{NoText, Passes, next_text, PassesNoText}
@@ -28,6 +30,17 @@ module _ (p ws : List ℕ) where
   -- a row whose text has no bytes
   pub no_text : (k : ℕ) {n : Node} {s : List ℕ} → n ≡ node_at ws k → s ≡ text_of p n → length s ≡ 0 → text_at p ws k ≡ []
   no_text k {n} {s} q e z = let t : text_of p n ≡ [] = sym e ∙ empty s z in rw q at t
+
+  -- the lowest row from `from` on that has text, as a search of the rows below `to` found it, or else `next`
+  pub lowest : {from to next : ℕ} (found : Option ℕ) → from ≤ to → Passes p ws to next
+      → MatchOption found ((k : ℕ) → from ≤ k → k < to → text_at p ws k ≡ [])
+      (λ i. (from ≤ i) × (i < to) × Unit {0} × ((k : ℕ) → from ≤ k → k < i → text_at p ws k ≡ [])) → Passes p ws from (unwrap_or found next)
+  lowest {from} {to} {next} None l n none = (omega (arith, n.0), n.1, λ j a b. go j a b (dec_lt j to))
+    where
+      go : (j : ℕ) → from ≤ j → j < next → Dec (j < to) → text_at p ws j ≡ []
+      go j a b (yes t) = none j a t
+      go j a b (no t) = n.2 j (omega arith) b
+  lowest (Some i) l n some = (some.0, omega (arith, some.1, n.0, n.1), some.3)
 
   -- ---- rows without text are passed over
 
@@ -54,8 +67,8 @@ module _ (p ws : List ℕ) where
     -- what is filled in for k
     filled_in : (k : ℕ) → (eqb (k % step) 0 && ltb (k / step) (length skip)) ≡ true → Passes p ws k (get_or skip (k / step) 0)
     filled_in k t =
-        let a = eqb-true (k % step) 0 (and_left (eqb (k % step) 0) (ltb (k / step) (length skip)) t) in
-        let b = ltb-true (k / step) (length skip) (and_right (eqb (k % step) 0) (ltb (k / step) (length skip)) t) in
+        let a = eqb-true (k % step) 0 (and_parts (eqb (k % step) 0) (ltb (k / step) (length skip)) t).0 in
+        let b = ltb-true (k / step) (length skip) (and_parts (eqb (k % step) 0) (ltb (k / step) (length skip)) t).1 in
         let z : step * (k / step) ≡ k = omega (arith, div-add-mod k step) in
         rw z at (s.passes (k / step) b)
 

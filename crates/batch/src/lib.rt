@@ -19,6 +19,7 @@ use attributes::{Names, Slots};
 use rules::{Held, Refusal};
 use scan::Marks;
 use sound::Document;
+use tag::Tag;
 
 // The most rows that a reading makes (`most` of NodeBound in crates/maxnodes), and rows enough for a short page, for which less
 // is cleared.
@@ -58,7 +59,7 @@ fn check_tags<'a>(page: &'a [u8], table: &'a [u32], handles: &'a [u32]) -> Resul
 
 // ---- attributes
 
-// Writes the three words from `at` on, and answers the place after them.
+// Writes the three words from `at` on, and answers the place after them. A struct of buffer and place would serve these two functions.
 fn put_held(held: Held, out: &mut [u32], at: usize) -> usize
     requires { Inside page_limit held × (at + 3 ≤ length out.old) }
     ensures { Wrote out.old at (held_numbers held) out.new result }
@@ -68,7 +69,8 @@ fn put_held(held: Held, out: &mut [u32], at: usize) -> usize
     end
 }
 
-// Writes what each tag holds for the name. The table of marks is made once.
+// Writes what each tag holds for the name. The table of marks is made once. By a `zip` with `chunks_exact_mut` it was tried, and the proof
+// did not close: no invariant was found that speaks of the words while they are lent out in chunks.
 fn put_attributes(tags: &Tags, name: &[u8], out: &mut [u32])
     requires { 3 * length tags.now.handles.now ≤ length out.old }
     ensures { let d = tags.now.document in
@@ -79,7 +81,7 @@ fn put_attributes(tags: &Tags, name: &[u8], out: &mut [u32])
     let d = &tags.document;
     let mut at = 0;
     for &h in tags.handles {
-        let held = tag::attribute(&t, d.page, d.row(h as usize), name);
+        let held = Tag::of(d, h as usize).attribute(&t, name);
         at = put_held(held, out, at);
     }
 }
@@ -139,16 +141,12 @@ fn none_named(tags: &Tags, first: &[u8]) -> bool
         result ≡ true → Unnamed d.page.now d.table.now first.now tags.now.handles.now }
 {
     let d = &tags.document;
-    for &h in tags.handles {
-        if attributes::may_have_any(d.page, d.row(h as usize), first) {
-            return false;
-        }
-    }
-    true
+    !tags.handles.iter().any(|&h| attributes::may_have_any(&Tag::of(d, h as usize), first))
 }
 
 // Writes what each tag holds for each name, which all begin with `first`, into words that are lent all zero. The marks and the names'
-// slots are made once, and each tag's attributes are read once.
+// slots are made once, and each tag's attributes are read once. By place and not by chunks: without a name they would have no words, and
+// `chunks_exact_mut` stops the program at that.
 fn read_names(tags: &Tags, names: &Names, first: &[u8], out: &mut [u32])
     requires alike { Alike names.now.text.now names.now.ends.now first.now }
     requires zeros { out.old ≡ replicate (3 * length names.now.ends.now * length tags.now.handles.now) 0 }
@@ -165,9 +163,9 @@ fn read_names(tags: &Tags, names: &Names, first: &[u8], out: &mut [u32])
     let d = &tags.document;
     let mut at = 0;
     for &h in tags.handles {
-        let n = d.row(h as usize);
+        let tag = Tag::of(d, h as usize);
         let end = at + 3 * names.len();
-        attributes::attributes(&t, &slots, d.page, n, first, &mut out[at..end]);
+        attributes::attributes(&t, &slots, &tag, first, &mut out[at..end]);
         at = end;
     }
 }
@@ -240,8 +238,7 @@ fn refuse_texts(ends: &mut [usize], out: &mut [u8], why: Refusal) -> Result<usiz
         FilledBoth (Err why) e b result ends.new out.new }
 {
     ends.fill(0);
-    out.fill(0);
-    Err(why)
+    table::refuse(out, why)
 }
 
 // Where to look for text: for every `step`-th row the lowest row from it on that has any. Tags that lie in each other would else be
@@ -279,13 +276,9 @@ fn lowest_text(d: &Document, from: usize, to: usize, next: usize) -> usize
     requires { (from ≤ to) × Passes d.now.page.now d.now.table.now to next }
     ensures { Passes d.now.page.now d.now.table.now from result }
 {
-    for k in from..to {
-        let size = tag::text_of(d.page, d.row(k)).len();
-        if size != 0 {
-            return k;
-        }
-    }
-    next
+    (from..to)
+        .find(|&k| tag::text_of(d.page, d.row(k)).len() != 0)
+        .unwrap_or(next)
 }
 
 // Fills the table of skips, from the last row down.
@@ -329,7 +322,7 @@ fn put_text(s: &Skips, h: usize, out: &mut [u8], at: usize) -> Option<usize>
     Some(i)
 }
 
-// Writes the inner texts one after the other, and where each ends.
+// Writes the inner texts one after the other, and where each ends: by place, since a refusal clears all of `ends`.
 fn put_texts(s: &Skips, ends: &mut [usize], out: &mut [u8]) -> Result<usize, Refusal>
     requires { length s.now.tags.handles.now ≤ length ends.old }
     ensures { let d = s.now.tags.document in
@@ -370,7 +363,7 @@ fn skip_texts(
 }
 
 // Whether the rows below the handles are no more than all rows: each can then be walked through without skips. The answer is about
-// speed alone, so nothing is promised of it.
+// speed alone, so nothing is promised of it. A loop, in which each handle is known to be a tag's; a closure would have to say so.
 fn few_below(tags: &Tags, count: usize) -> bool {
     let d = &tags.document;
     let mut left = count;
@@ -393,6 +386,7 @@ fn walk_texts(tags: &Tags, ends: &mut [usize], out: &mut [u8]) -> Result<usize, 
 {
     let count = tags.document.count();
     if few_below(tags, count) {
+        // no row is filled in: each is walked through
         let none = Skips {
             tags: *tags,
             next: &tags.handles[..0],
@@ -424,7 +418,6 @@ fn list_texts(tags: &Tags, ends: &mut [usize], out: &mut [u8]) -> Result<usize, 
 }
 
 // The inner texts of a list of tags, one after the other, and where each ends.
-#[tactic(auto, unfolding(rules::specs::Batch::batch_answer, rules::specs::Batch::texts_answer, rules::specs::Batch::texts_buffer, rules::specs::Batch::ends_buffer))]
 pub fn inner_texts(
     page: &[u8],
     table: &[u32],

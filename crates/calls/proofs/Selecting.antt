@@ -1,16 +1,20 @@
 -- The ways out of a query: refusals 5 and 6, and what the walk over the handles found.
-use Rattle.std.proofs.Common.{Some, Result}
-use mathlib.Core.Path.{◌≡◌, sym, ◌∙◌}
+use Rattle.std.proofs.Common.{Result, Err}
+use mathlib.Core.Path.{◌≡◌, refl, sym, ◌∙◌}
 use mathlib.Core.List.{List}
-use Prim.Native.Nat.{ℕ, ◌≤◌, ◌<◌}
-use borrow.Author.Tests.{le-ltb}
-use lib.ListN.{length}
-use Rattle.rules.specs.Chain.{read_selector}
-use Rattle.rules.specs.Refusals.{Counts, selector_limit}
+use Prim.Native.Nat.{ℕ}
+use lib.ListN.{length, replicate}
+use Rattle.rules.specs.Refusals.{Counts}
+use Rattle.rules.specs.Answers.{finds_answer}
 use Rattle.rules.specs.declared.Piece.{Piece}
-use Rattle.calls.specs.Calls.{Selects}
 use Rattle.rules.specs.declared.Refusal.{Refusal}
+use Rattle.queryselector.specs.Chains.{read_answer}
+use Rattle.queryselector.proofs.Written.{Parsed, refused_first}
+use Rattle.calls.specs.Calls.{Selects}
 
 module _ (F : List Piece → List ℕ) (s b : List ℕ) {out : List ℕ} {r : Result ℕ Refusal} where
-  pub walked : length s ≤ selector_limit → (ps : List Piece) → read_selector s ≡ Some ps → Counts (F ps) b r out → Selects F s b r out
-  walked l ps e L = record { is = L.is ∙ sym (rw (le-ltb selector_limit (length s) l, e)); left = rw e L.left }
+  pub unread : (x : Refusal) → Err x ≡ read_answer s → r ≡ Err x → out ≡ replicate (length b) 0 → Selects F s b r out
+  unread x a e z = record { is = e ∙ sym (refused_first (finds_answer F (length b)) s x refl a); left = z ∙ rw e }
+
+  pub walked : {words : List ℕ} {n : ℕ} (P : Parsed s words n) → Counts (F P.pieces) b r out → Selects F s b r out
+  walked P L = record { is = L.is ∙ sym (rw (P.short, P.read)); left = rw P.read L.left }

@@ -4,7 +4,7 @@
 
 ghost use Rattle.std.specs.Prelude.{◌≡◌, ◌-◌, ◌≤◌, ◌<◌, length, IfOk, Ok};
 ghost use Rattle.rules.specs.Bytes.{is_white};
-ghost use Rattle.rules.specs.Refusals.{Counts, Refuses, asking, asking_tag, held_part};
+ghost use Rattle.rules.specs.Refusals.{Counts, asking, asking_tag, held_part};
 ghost use Rattle.rules.specs.Lists.{from};
 ghost use Rattle.rules.specs.Sound.{count_of};
 ghost use Rattle.rules.specs.Text.{inner_text};
@@ -17,6 +17,8 @@ use piece::Chain;
 use rules::{Held, Manner, Refusal};
 use scan::Marks;
 use sound::Document;
+use std::ops::Range;
+use tag::Tag;
 
 // How deep `inner_text` descends by recursion before a flat walk goes on.
 const DEPTH: usize = 64;
@@ -28,7 +30,7 @@ pub fn check<'a>(page: &'a [u8], table: &'a [u32]) -> Result<Document<'a>, Refus
     ensures answer { told result ≡ asking page.now table.now (Ok tt) }
     ensures lent { IfOk result (λ d. (d.page.now ≡ page.now) × (d.table.now ≡ table.now)) }
 {
-    if parser::PAGE_LIMIT < page.len() {
+    if rules::PAGE_LIMIT < page.len() {
         return Err(Refusal::PageTooLong);
     }
     Document::new(page, table).ok_or(Refusal::TableNotSound)
@@ -46,7 +48,7 @@ fn check_tag<'a>(page: &'a [u8], table: &'a [u32], h: usize) -> Result<Document<
     Err(Refusal::NotATag)
 }
 
-// ---- the calls
+// ---- the calls: one that writes clears its buffer where it refuses, by a `match`, since `?` would leave the buffer as it was
 
 // The handles below a tag.
 #[tactic(auto, unfolding(rules::specs::Answers::range_answer))]
@@ -64,7 +66,7 @@ pub fn attribute(page: &[u8], table: &[u32], h: usize, name: &[u8]) -> Result<He
 {
     let d = check_tag(page, table, h)?;
     let t = Marks::new();
-    Ok(tag::attribute(&t, d.page, d.row(h), name))
+    Ok(Tag::of(&d, h).attribute(&t, name))
 }
 
 // The part of the page that is held: empty without a value.
@@ -73,8 +75,7 @@ fn held_part<'a>(page: &'a [u8], held: Held) -> &'a [u8]
     ensures { result.now ≡ held_part page.now held }
 {
     match held {
-        Held::Absent => &page[0..0],
-        Held::Bare => &page[0..0],
+        Held::Absent | Held::Bare => &page[..0],
         Held::Value(start, end) => &page[start..end],
     }
 }
@@ -84,7 +85,7 @@ pub fn attribute_value<'a>(page: &'a [u8], table: &[u32], h: usize, name: &[u8])
     ensures { result.now ≡ attribute_part is_white page.now table.now h name.now }
 {
     let Ok(held) = attribute(page, table, h, name) else {
-        return &page[0..0];
+        return &page[..0];
     };
     held_part(page, held)
 }
@@ -97,8 +98,7 @@ fn write_text(d: &Document, h: usize, out: &mut [u8]) -> Result<usize, Refusal>
 {
     let size = tag::text_length(d, h);
     if out.len() < size {
-        out.fill(0);
-        return Err(Refusal::BufferTooShort);
+        return table::refuse(out, Refusal::BufferTooShort);
     }
     Ok(tag::inner_text(d, h, out, 0, DEPTH))
 }
@@ -112,15 +112,12 @@ pub fn inner_text(page: &[u8], table: &[u32], h: usize, out: &mut [u8]) -> Resul
         Filled (text_answer is_white p ws h (length b)) (text_buffer is_white p ws h b) result out.new }
 {
     match check_tag(page, table, h) {
-        Err(why) => {
-            out.fill(0);
-            Err(why)
-        }
+        Err(why) => table::refuse(out, why),
         Ok(d) => write_text(&d, h, out),
     }
 }
 
-// ---- lookups by id and class
+// ---- lookups by id and class: the manner is a part of the question, and no closure, since a caller of the exports says it by a number
 
 // The tag with an id: in a scan the lowest handle, else the one closed last.
 #[tactic(auto, unfolding(rules::specs::Answers::id_answer))]
@@ -175,26 +172,24 @@ pub fn get_elements_by_class_name(
 
 // ---- queries
 
-// The finds of a selector among the handles from lo up to end, or refusals 5, 6 and 7.
-fn select(d: &Document, lo: usize, end: usize, s: &[u8], out: &mut [u32]) -> Result<usize, Refusal>
-    requires { (lo ≤ end) × (end ≤ count_of d.now.table.now) }
-    ensures { let finds = among d.now.page.now d.now.table.now s.now (from lo (end - lo)) in
+// The finds of a selector among these handles, or refusals 5, 6 and 7.
+fn select(d: &Document, handles: Range<usize>, s: &[u8], out: &mut [u32]) -> Result<usize, Refusal>
+    requires { (handles.start ≤ handles.end) × (handles.end ≤ count_of d.now.table.now) }
+    ensures { let finds = among d.now.page.now d.now.table.now s.now (from handles.start (handles.end - handles.start)) in
         Selects finds s.now out.old result out.new }
 {
-    if queryselector::LIMIT < s.len() {
-        return table::refuse(out, Refusal::SelectorTooLong);
-    }
     let t = Marks::new();
     let mut words = [0u32; queryselector::ROOM];
-    let Some(pieces) = queryselector::parse_selector(&t, s, &mut words) else {
-        return table::refuse(out, Refusal::SelectorNotRead);
+    let pieces = match queryselector::read(&t, s, &mut words) {
+        Ok(n) => n,
+        Err(why) => return table::refuse(out, why),
     };
     let chain = Chain {
         text: s,
         words: &words,
         pieces,
     };
-    vdom::query(&t, d, lo, end, &chain, out)
+    vdom::query(&t, d, handles, &chain, out)
 }
 
 // The nodes of the page that a selector finds, in handle order.
@@ -212,7 +207,7 @@ pub fn query_selector(
 {
     match check(page, table) {
         Err(why) => table::refuse(out, why),
-        Ok(d) => select(&d, 0, d.count(), s, out),
+        Ok(d) => select(&d, 0..d.count(), s, out),
     }
 }
 
@@ -235,7 +230,8 @@ pub fn query_selector_below(
         Err(why) => table::refuse(out, why),
         Ok(d) => {
             let last = d.row(h).last as usize;
-            select(&d, h + 1, last + 1, s, out)
+            // `h + 1..=last` would be a type of its own, and a flag at each step.
+            select(&d, h + 1..last + 1, s, out)
         }
     }
 }

@@ -1,6 +1,6 @@
 -- Two comparisons by pairs: of two lists as long as one another, and of two bytes of a page with a test of each.
-use mathlib.Core.Path.{◌≡◌, refl, sym, ap}
-use mathlib.Core.Bool.{Bool, false, ◌&&◌, and-true, and-false}
+use mathlib.Core.Path.{◌≡◌, refl, ap}
+use mathlib.Core.Bool.{Bool, ◌&&◌, and-true}
 use mathlib.Core.List.{List, [], ◌∷◌}
 use Prim.Native.Nat.{ℕ, suc, ◌+◌, ◌-◌, ◌≤◌, ◌<◌}
 use native.Mathlib.Omega.{arith}
@@ -11,7 +11,6 @@ use lib.ListN.{length}
 use Rattle.std.specs.List.{list_all, zip}
 use Rattle.rules.specs.Bytes.{is}
 use Rattle.rules.specs.Scan.{agree, same, here, part}
-use Rattle.rules.proofs.Places.{here_false}
 
 pub all_pairs : (f : ℕ → ℕ) (xs ys : List ℕ) → length xs ≡ length ys → list_all (λ (p : ℕ × ℕ). eqb (f p.0) p.1) (zip xs ys) ≡ agree f xs ys
 unfolding agree
@@ -29,7 +28,3 @@ module _ (x y : ℕ) (p : List ℕ) (at : ℕ) where
       let l : at < length p = omega arith in
       let k : suc at < length p = omega arith in
       rw (two, drop-cons p at 0, drop-cons p (suc at) 0, lt-ltb at (length p) l, lt-ltb (suc at) (length p) k, and-true)
-
-  -- they are not: the second is missing
-  pub pair_short : length p ≤ suc at → false ≡ (here (is x) p at && here (is y) p (suc at))
-  pair_short h = sym (rw (here_false (is y) p (suc at) h) (and-false (here (is x) p at)))

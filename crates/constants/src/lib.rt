@@ -1,4 +1,4 @@
-// Comparisons of page bytes with fixed byte strings: tl's parser/constants, util::to_lower, simd::matches_case_insensitive.
+// Comparisons of page bytes with fixed byte strings: tl's parser/constants and simd::matches_case_insensitive.
 
 #![tactic(auto)]
 
@@ -15,14 +15,15 @@ pub fn is_same(x: &[u8], y: &[u8]) -> bool
     x.len() == y.len() && x.iter().zip(y).all(|(a, b)| a == b)
 }
 
-// simd::matches_case_insensitive: x in any ASCII case; y is written in lower case.
+// simd::matches_case_insensitive: x in any ASCII case; y is written in lower case, and need not be lowered, as std's
+// `eq_ignore_ascii_case` would.
 fn matches_case_insensitive(x: &[u8], y: &[u8]) -> bool
     ensures { result ≡ same_lower x.now y.now }
 {
     x.len() == y.len() && x.iter().zip(y).all(|(a, b)| a.to_ascii_lowercase() == *b)
 }
 
-// `doctype` in any ASCII case.
+// `doctype` in any ASCII case; the next is the same for `html`, a line each.
 pub fn is_doctype(x: &[u8]) -> bool
     ensures { result ≡ same_lower x.now doctype_name }
 {
@@ -36,7 +37,7 @@ pub fn is_html(x: &[u8]) -> bool
     matches_case_insensitive(x, b"html")
 }
 
-// constants::COMMENT: `--` stands at the place. As a pattern of the rest of s the search for a comment's end took half as long again.
+// constants::COMMENT: `--` stands at the place.
 pub fn is_comment(s: &[u8], at: usize) -> bool
     ensures { result ≡ (here (is 45) s.now at && here (is 45) s.now (suc at)) }
 {

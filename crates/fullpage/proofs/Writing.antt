@@ -2,7 +2,7 @@
 use Prim.Native.Nat.{ℕ, suc, ◌+◌, ◌≤◌}
 use native.Mathlib.Omega.{arith}
 use native.Mathlib.Decide.{dec_le}
-use mathlib.Core.Bool.{Bool, true, false, ◌&&◌}
+use mathlib.Core.Bool.{Bool, true, false, ◌&&◌, and-false}
 use mathlib.Core.Path.{◌≡◌, refl, sym, ap, ◌∙◌}
 use mathlib.Core.List.{List, ◌++◌}
 use lib.Dec.{leb}
@@ -14,12 +14,12 @@ use Rattle.rules.specs.Names.{is_void}
 use Rattle.rules.specs.Scan.{pick, here}
 use Rattle.rules.specs.Buffers.{Wrote}
 use Rattle.rules.specs.Refusals.{page_limit}
-use Rattle.laws.proofs.CutLexer.{and_left, and_right, and-false}
+use Rattle.std.proofs.lemmas.Bool.{and_parts}
 use Rattle.decimal.specs.Digits.{number_at}
 use Rattle.std.proofs.Common.{Option, Some, None}
 use Rattle.std.specs.Option.{option_and_then}
 use Rattle.maxnodes.specs.Bound.{densest}
-use Rattle.fullpage.specs.Asked.{ending, asked_by, asked, answer_text, FullPage}
+use Rattle.fullpage.specs.Asked.{ending, asked_by, asked, FullPage}
 use Rattle.maxnodes.proofs.Attained.{cycle_length, node_bound}
 
 -- ---- what is asked for
@@ -30,7 +30,7 @@ asked_short s n e = by (number_at s 0) e
   where
     test : (m end : ℕ) (b : Bool) → (leb end 5 && leb m page_limit && ending s end) ≡ b → pick b (Some m) None ≡ Some n → n ≤ page_limit
     test m end true t q =
-        let l : leb m page_limit ≡ true = and_right (leb end 5) (leb m page_limit) (and_left (leb end 5 && leb m page_limit) (ending s end) t) in
+        let l : leb m page_limit ≡ true = (and_parts (leb end 5) (leb m page_limit) (and_parts (leb end 5 && leb m page_limit) (ending s end) t).0).1 in
         let z : m ≡ n = cc in omega (arith, leb-true m page_limit l)
     test m end false t q = cc
 
@@ -67,16 +67,6 @@ full_page =
     }
 
 -- ---- what is written
-
-answer_short : (s : List ℕ) → length (answer_text (asked s)) ≤ page_limit
-answer_short s = by (asked s) refl
-  where
-    by : (x : Option ℕ) → asked s ≡ x → length (answer_text x) ≤ page_limit
-    by (Some n) e = omega (arith, cycle_length 97 n, asked_short s n e)
-    by None e = omega arith
-
-pub wrote_short : (s : List ℕ) {d left : List ℕ} {r : ℕ} → Wrote d 0 (answer_text (asked s)) left r → r ≤ page_limit
-wrote_short s w = omega (arith, w.next, answer_short s)
 
 -- the page has room
 pub room_for : (s out : List ℕ) (n : ℕ) → asked s ≡ Some n → page_limit ≤ length out → n ≡ length (take n out)

@@ -8,11 +8,9 @@ ghost use Rattle.rules.specs.Refusals.{page_limit};
 ghost use Rattle.rules.specs.Buffers.{Wrote};
 ghost use Rattle.fullpage.specs.Asked.{ending, asked, answer_text};
 
+use rules::PAGE_LIMIT;
 use std::io;
 use std::io::Print;
-
-// The longest page.
-const LIMIT: u32 = 65536;
 
 // The input ends at the place, or after a line feed there.
 fn ends(s: &[u8], at: usize) -> bool
@@ -27,11 +25,8 @@ fn asked(s: &[u8]) -> Option<usize>
     ensures { result ≡ asked s.now }
 {
     let (n, end) = decimal::number_at(s, 0)?;
-    if end <= 5 && n <= LIMIT && ends(s, end) {
-        Some(n as usize)
-    } else {
-        None
-    }
+    let n = n as usize;
+    (end <= 5 && n <= PAGE_LIMIT && ends(s, end)).then_some(n)
 }
 
 // Writes what the input asks for, and answers how many bytes that are.
@@ -51,7 +46,7 @@ fn answer(s: &[u8], out: &mut [u8]) -> usize
 // Seven bytes are refused whatever follows them, so no more are read.
 fn main(rt: HostRuntime) -> io::Result<()> {
     let mut input = [0u8; 7];
-    let mut page = [0u8; 65536];
+    let mut page = [0u8; PAGE_LIMIT];
     let k = input::read_full(&mut rt.stdin(), &mut input)?;
     let n = answer(&input[..k], &mut page);
     rt.write_all(&page[..n])

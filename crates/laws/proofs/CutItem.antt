@@ -8,23 +8,17 @@ use mathlib.Core.Path.{◌≡◌, refl, sym, ◌∙◌}
 use mathlib.Core.List.{List}
 use lib.ListN.{length, take, get_or}
 use lib.Dec.{ltb, leb}
-use borrow.Author.Tests.{lt-ltb, ltb-true, le-leb, lt-leb}
+use borrow.Author.Tests.{lt-ltb, le-leb, lt-leb}
 use Rattle.rules.specs.Bytes.{is}
 use Rattle.rules.specs.Scan.{pick, here}
 use Rattle.rules.specs.Lexer.{comment_end}
 use Rattle.rules.proofs.Pick.{cases}
+use Rattle.rules.proofs.Places.{here_below}
 use Rattle.laws.proofs.Cut.{here_cut, length_cut}
 
 -- a comment's end is none, or past the three bytes that close it
 abbrev pub Ends : List ℕ → ℕ → ℕ → Type 0
 Ends p at e = (e ≡ 0) ⊎ ((at + 3 ≤ e) × (e ≤ length p))
-
-pub here_in : (P : ℕ → Bool) (p : List ℕ) (at : ℕ) (b : Bool) → here P p at ≡ b → b ≡ true → at < length p
-here_in P p at b h e = go (ltb at (length p)) refl (h ∙ e)
-  where
-    go : (t : Bool) → ltb at (length p) ≡ t → (t && P (get_or p at 0)) ≡ true → at < length p
-    go true q r = ltb-true at (length p) q
-    go false q r = let z : ◌≡◌ {A = ℕ} 0 1 = cc in omega arith
 
 pub comment_end_lem : (k : ℕ) (p : List ℕ) (at : ℕ) → Ends p at (comment_end k p at)
 unfolding comment_end
@@ -33,7 +27,7 @@ comment_end_lem (suc k) p at =
     cases (Ends p at) (ltb at (length p))
     (λ t. cases (Ends p at) (here (is 45) p at && here (is 45) p (suc at))
     (λ d. cases (Ends p at) (here (is 62) p (suc (suc at)))
-    (λ g. let l : suc (suc at) < length p = here_in (is 62) p (suc (suc at)) _ g refl in inr (omega arith, omega arith))
+    (λ g. let l : suc (suc at) < length p = here_below (is 62) p (suc (suc at)) _ refl g in inr (omega arith, omega arith))
     (λ g. later (comment_end_lem k p (suc (suc (suc at)))) (omega arith)))
     (λ d. later (comment_end_lem k p (suc at)) (omega arith)))
     (λ t. inl refl)
@@ -43,7 +37,7 @@ comment_end_lem (suc k) p at =
     later (inr l) h = inr (omega (arith, l.0), l.1)
 
 -- fewer than three bytes hold no end of a comment
-comment_none : (k : ℕ) (p : List ℕ) (at : ℕ) → length p ≤ at + 2 → comment_end k p at ≡ 0
+pub comment_none : (k : ℕ) (p : List ℕ) (at : ℕ) → length p ≤ at + 2 → comment_end k p at ≡ 0
 comment_none k p at h = ⊎_elim (λ z. z) (λ l. let z : ◌≡◌ {A = ℕ} 0 1 = omega (arith, l.0, l.1) in omega (arith, z)) (comment_end_lem k p at)
 
 -- what is found within the first n bytes

@@ -2,7 +2,7 @@
 use Prim.Native.Nat.{ℕ, suc, ◌+◌, ◌-◌, ◌≤◌, ◌<◌, min, pred}
 use native.Mathlib.Omega.{arith}
 use native.Mathlib.Decide.{dec_le, dec_lt}
-use mathlib.Core.Bool.{Bool, true, false, ◌&&◌}
+use mathlib.Core.Bool.{Bool, true, false, ◌&&◌, and-false}
 use mathlib.Core.Logic.{◌⊎◌, inl, inr, ⊎_elim}
 use mathlib.Core.Path.{◌≡◌, refl, ap, ◌∙◌}
 use mathlib.Core.List.{List}
@@ -10,6 +10,7 @@ use lib.ListN.{length, take, drop, get_or}
 use lib.Seq.{take-length, take-take, drop-cons}
 use lib.Dec.{eqb, ltb, leb}
 use borrow.Author.Tests.{lt-ltb, le-ltb, ltb-false, le-leb, leb-true, leb-false, eqb-true, ne_eqb}
+use Rattle.std.proofs.lemmas.Bool.{and_parts}
 use Rattle.rules.specs.Bytes.{is_ident, other, is}
 use Rattle.rules.specs.Scan.{pick, span, skip, here, pass, part}
 use Rattle.rules.specs.Attributes.{attributes_end}
@@ -18,7 +19,8 @@ use Rattle.rules.specs.declared.Item.TheVariants.{Text, Close, Comment, Doctype,
 use Rattle.rules.specs.Lexer.{next, is_tag, comment_end, comment_to, item_at, markup, closing, tag, tag_from, tag_to, bang, declaration_from, doctype_from, same_lower, doctype_name}
 use Rattle.laws.proofs.Cut.{Scans, skip_scans, pass_scans, then_scans, cut_at, here_cut, here_end, length_cut, end_cut, end_grows, drop_take}
 use Rattle.rules.proofs.Pick.{cases}
-use Rattle.laws.proofs.CutItem.{Ends, comment_end_lem, comment_cut, below, here_in}
+use Rattle.rules.proofs.Places.{here_below}
+use Rattle.laws.proofs.CutItem.{Ends, comment_end_lem, comment_cut, below}
 
 -- An item i of a page and what stands in its place in the first n bytes: the same, or no tag, up to the cut.
 pub data Cut (n : ℕ) (i j : Item) : Type 0 where
@@ -290,23 +292,11 @@ formed_named x (Doctype h n) f = omega arith
 formed_named x (Tag a e n s) f = omega arith
 formed_named x (Nothing n) f = omega arith
 
-pub and-false : (a : Bool) → (a && false) ≡ false
-and-false true = refl
-and-false false = refl
-
-pub and_left : (a b : Bool) → (a && b) ≡ true → a ≡ true
-and_left true b e = refl
-and_left false b e = e
-
-pub and_right : (a b : Bool) → (a && b) ≡ true → b ≡ true
-and_right true b e = e
-and_right false b e = let z : ◌≡◌ {A = ℕ} 0 1 = cc in absurd (omega arith)
-
 pub skip_strict : (P : ℕ → Bool) (p : List ℕ) (x : ℕ) → here P p x ≡ true → x < skip P p x
 unfolding span
 skip_strict P p x h =
-    let l : x < length p = here_in P p x _ h refl in
-    let t : P (get_or p x 0) ≡ true = and_right (ltb x (length p)) (P (get_or p x 0)) h in
+    let l : x < length p = here_below P p x _ refl h in
+    let t : P (get_or p x 0) ≡ true = (and_parts (ltb x (length p)) (P (get_or p x 0)) h).1 in
     rw (drop-cons p x 0 l, t) (omega arith)
 
 -- a comment, searched for its end from a place on
@@ -352,7 +342,7 @@ module _ (white : ℕ → Bool) where
   dash_runs : (p : List ℕ) (n x : ℕ) → n < length p → suc x ≡ n → here (is 45) p x ≡ true → skip is_ident (take n p) x ≡ n
   dash_runs p n x hn e h =
       let l : length (take n p) ≡ n = length_cut n p (omega arith) in
-      let b : get_or p x 0 ≡ 45 = eqb-true (get_or p x 0) 45 (and_right (ltb x (length p)) (is 45 (get_or p x 0)) h) in
+      let b : get_or p x 0 ≡ 45 = eqb-true (get_or p x 0) 45 (and_parts (ltb x (length p)) (is 45 (get_or p x 0)) h).1 in
       let t : here is_ident (take n p) x ≡ true = here_cut is_ident p n x (omega arith) (omega arith) ∙ rw (lt-ltb x (length p) (omega arith), b) in
       omega (arith, skip_strict is_ident (take n p) x t, (skip_scans is_ident).within (take n p) x (omega arith))
 
@@ -374,7 +364,8 @@ module _ (white : ℕ → Bool) where
 
       dash : (here (is 45) p x && here (is 45) p (suc x)) ≡ true → Dec (x < n) → Cut n (comment s p x) (declaration white (take n p) x)
       dash t (yes l) =
-          declared_past white p n x (comment s p x) hn far (dash_runs p n x hn (omega (arith, h, l)) (and_left (here (is 45) p x) (here (is 45) p (suc x)) t))
+          let one = (and_parts (here (is 45) p x) (here (is 45) p (suc x)) t).0 in
+          declared_past white p n x (comment s p x) hn far (dash_runs p n x hn (omega (arith, h, l)) one)
       dash t (no l) =
           let q : length (take n p) ≡ n = length_cut n p (omega arith) in
           declared_past white p n x (comment s p x) hn far
@@ -484,7 +475,7 @@ module _ (white : ℕ → Bool) where
       go : (c : ℕ) (slash : Bool) → tag_end white p at ≤ c → Formed x (tag_to p at (skip is_ident p at) c slash)
       go c slash k =
           cases (Formed x) (here (is 62) p c)
-          (λ t. let i : c < length p = here_in (is 62) p c _ t refl in (l, (skip_scans is_ident).grows p at h, omega (arith, a)))
+          (λ t. let i : c < length p = here_below (is 62) p c _ refl t in (l, (skip_scans is_ident).grows p at h, omega (arith, a)))
           (λ t. tt)
 
   bang_formed : (x : ℕ) (p : List ℕ) (q : ℕ) → x < q → q < length p → Formed x (bang white p q)
@@ -505,7 +496,7 @@ module _ (white : ℕ → Bool) where
   markup_formed x p q l h =
       cases (Formed x) (here (is 47) p q) (λ t. (omega arith, omega (arith, (skip_scans (other 62)).within p (pass p q) (omega arith))))
       (λ t. cases (Formed x) (here (is 33) p q)
-      (λ u. bang_formed x p q l (here_in (is 33) p q _ u refl))
+      (λ u. bang_formed x p q l (here_below (is 33) p q _ refl u))
       (λ u. cases (Formed x) (ltb q (length p)) (λ v. tag_formed x p q l h) (λ v. tt)))
 
   pub item_formed : (p : List ℕ) (at : ℕ) → at < length p → Formed at (item_at white p at)
@@ -522,19 +513,3 @@ module _ (white : ℕ → Bool) where
       go : Dec (n < length p) → Cut n (item_at white p at) (item_at white (take n p) at)
       go (yes l) = item_items.cut p n at l (omega arith)
       go (no l) = let e : n ≡ length p = omega arith in rw (e, take-length p) (whole refl (item_items.within p at (omega arith)))
-
-  -- the two cases of a cut
-  pub item_whole : (p : List ℕ) (n at : ℕ) → n ≤ length p → at < n → next (item_at white p at) ≤ n → item_at white (take n p) at ≡ item_at white p at
-  item_whole p n at hn h l = go (item_cut p n at hn h)
-    where
-      go : Cut n (item_at white p at) (item_at white (take n p) at) → item_at white (take n p) at ≡ item_at white p at
-      go (whole e x) = e
-      go (past x e f) = absurd (omega arith)
-
-  pub item_past : (p : List ℕ) (n at : ℕ) → n ≤ length p → at < n → n < next (item_at white p at) → (next (item_at white (take n p) at) ≡ n)
-      × (is_tag (item_at white (take n p) at) ≡ false)
-  item_past p n at hn h l = go (item_cut p n at hn h)
-    where
-      go : Cut n (item_at white p at) (item_at white (take n p) at) → (next (item_at white (take n p) at) ≡ n) × (is_tag (item_at white (take n p) at) ≡ false)
-      go (whole e x) = absurd (omega arith)
-      go (past x e f) = (e, f)

@@ -1,23 +1,19 @@
 -- A value, an attribute and a run of attributes: one law for each way through the code, which takes what the code knows there.
 use Rattle.std.proofs.Common.{Option, Some, None}
-use mathlib.Core.Path.{◌≡◌, refl, ap, sym, ◌∙◌}
-use mathlib.Core.Bool.{Bool, true, false, not}
+use mathlib.Core.Path.{◌≡◌, refl, ap, sym}
+use mathlib.Core.Bool.{Bool, true, false}
 use mathlib.Core.List.{List}
 use Prim.Native.Nat.{ℕ, zero, suc, ◌+◌, ◌-◌, ◌≤◌, ◌<◌}
 use native.Mathlib.Omega.{arith}
 use lib.ListN.{length}
 use lib.Seq.{take-length}
-use Rattle.rules.specs.Bytes.{is_ident, is_closing, is_quote, other, is}
+use Rattle.rules.specs.Bytes.{is_ident, is_quote, other, is}
 use Rattle.rules.specs.Scan.{pick, skip, here, pass}
 use Rattle.rules.specs.Attributes.{onward, in_value, not_closing, value_at, value_end, next_from, value_of, attribute_at, attribute_next, attributes_end}
 use Rattle.rules.specs.declared.Attribute.{Attribute}
 use Rattle.rules.proofs.Runs.{skip_end, skip_le}
 use Rattle.rules.proofs.Places.{here_false, pass_in, Read, Stood}
 use Rattle.laws.proofs.Cut.{next_scans, next_strict, end_grows, end_cut}
-
--- the byte b was read, and x says whether it is closing
-pub not_closing_lem : {p : List ℕ} {at b : ℕ} {x y : Bool} → Read p at b → x ≡ is_closing b → x ≡ y → here not_closing p at ≡ not y
-not_closing_lem R e t = R.tests not_closing ∙ ap not (sym e ∙ t)
 
 module _ (white : ℕ → Bool) (p : List ℕ) where
   -- ---- a value from v on, whose `=` stood at eq

@@ -1,14 +1,18 @@
 -- The search for the end of a comment: one law for each way through a turn of the loop.
-use mathlib.Core.Path.{◌≡◌, refl, sym, ◌∙◌}
-use mathlib.Core.Bool.{Bool, true, false, ◌&&◌}
+use mathlib.Core.Path.{◌≡◌, refl, ap, sym, ◌∙◌}
+use mathlib.Core.Bool.{Bool, true, false, not, ◌&&◌}
 use mathlib.Core.List.{List}
 use Prim.Native.Nat.{ℕ, zero, suc, ◌+◌, ◌-◌, ◌≤◌, ◌<◌}
 use native.Mathlib.Omega.{arith}
-use lib.ListN.{length}
+use native.Mathlib.Decide.{dec_lt}
+use lib.ListN.{length, get_or}
 use borrow.Author.Tests.{lt-ltb, le-ltb, ne_eqb}
-use Rattle.rules.specs.Bytes.{is}
-use Rattle.rules.specs.Scan.{pick, here}
+use Rattle.rules.specs.Bytes.{is, other}
+use Rattle.rules.specs.Scan.{pick, here, skip}
+use Rattle.rules.proofs.Places.{here_in}
+use Rattle.rules.proofs.Runs.{skip_end, skip_stop, skip_more}
 use Rattle.rules.specs.Lexer.{comment_end, comment_to}
+use Rattle.laws.proofs.CutItem.{comment_none}
 use Rattle.rules.specs.declared.Item.TheVariants.{Comment}
 
 module _ (p : List ℕ) where
@@ -17,7 +21,7 @@ module _ (p : List ℕ) where
   searched i = comment_end (length p) p i
 
   abbrev dashes : ℕ → Bool
-  dashes i = here (is 45) p i && here (is 45) p (suc i)
+  dashes i = here (is 45) p i && here (is 45) p (i + 1)
 
   past_end : (k i : ℕ) → length p ≤ i → comment_end k p i ≡ 0
   unfolding comment_end
@@ -44,19 +48,44 @@ module _ (p : List ℕ) where
           let three : i + 3 ≡ suc (suc (suc i)) = omega arith in
           rw (one, two, three, lt-ltb i (length p) h, ← enough n (suc i) (omega arith), ← enough n (suc (suc (suc i))) (omega arith))
 
-  -- the search from `at` is the search from i, where x says whether `--` stands, and z whether a `>` follows it
-  module _ (at i : ℕ) (inv : searched at ≡ searched i) where
-    module _ {x : Bool} (ex : x ≡ dashes i) (h : i < length p) where
-      module _ {z : Bool} (b : x ≡ true) (ez : z ≡ here (is 62) p (i + 2)) where
-        pub comment_ends : (start : ℕ) → z ≡ true → Comment start (i + 3) (i + 3) ≡ comment_to p start (searched at)
-        comment_ends start t =
-            let e : searched at ≡ i + 3 = inv ∙ turn i h ∙ rw (← ex, b, ← ez, t) in rw (e, ne_eqb (i + 3) 0 (λ z. omega arith))
+  -- no comment ends before the next `-`
+  passed_within : (k i : ℕ) → length p - i ≤ k → searched i ≡ searched (skip (other 45) p i)
+  passed_within zero i l = rw (skip_end (other 45) p i (omega arith))
+  passed_within (suc k) i l = go (dec_lt i (length p)) (is 45 (get_or p i 0)) refl (passed_within k (i + 1) (omega arith))
+    where
+      go : Dec (i < length p) → (b : Bool) → is 45 (get_or p i 0) ≡ b → searched (i + 1) ≡ searched (skip (other 45) p (i + 1))
+          → searched i ≡ searched (skip (other 45) p i)
+      go (no n) b e ih = rw (skip_end (other 45) p i (omega arith))
+      go (yes y) true e ih = rw (skip_stop (other 45) p i y (ap not e))
+      go (yes y) false e ih =
+          let none : here (is 45) p i ≡ false = here_in (is 45) p i y ∙ e in
+          let one : pick (dashes i) (pick (here (is 62) p (i + 2)) (i + 3) (searched (i + 3))) (searched (i + 1)) ≡ searched (i + 1) = rw none in
+          turn i y ∙ one ∙ ih ∙ ap searched (sym (skip_more (other 45) p i y (ap not e)))
 
-        pub comment_three : z ≡ false → searched at ≡ searched (i + 3)
-        comment_three t = inv ∙ turn i h ∙ rw (← ex, b, ← ez, t)
+  pub passed : (i : ℕ) → searched i ≡ searched (skip (other 45) p i)
+  passed i = passed_within (length p - i) i (omega arith)
 
-      pub comment_one : x ≡ false → searched at ≡ searched (i + 1)
-      comment_one b = inv ∙ turn i h ∙ rw (← ex, b)
+  -- the search from `at` is the search from i, and no place from `top` on has three bytes left
+  module _ {top : ℕ} (et : top ≡ length p - 2) (at i : ℕ) (inv : searched at ≡ searched i) where
+    abbrev both : Bool
+    both = is 45 (get_or p i 0) && is 45 (get_or p (i + 1) 0)
 
-    pub comment_none : (start : ℕ) → length p ≤ i → Comment start start (length p) ≡ comment_to p start (searched at)
-    comment_none start h = rw (inv, past_end (length p) i h)
+    module _ (h : i < top) where
+      turn_in : searched at ≡ pick both (pick (is 62 (get_or p (i + 2) 0)) (i + 3) (searched (i + 3))) (searched (i + 1))
+      turn_in =
+          let first : here (is 45) p i ≡ is 45 (get_or p i 0) = here_in (is 45) p i (omega arith) in
+          let second : here (is 45) p (i + 1) ≡ is 45 (get_or p (i + 1) 0) = here_in (is 45) p (i + 1) (omega arith) in
+          let third : here (is 62) p (i + 2) ≡ is 62 (get_or p (i + 2) 0) = here_in (is 62) p (i + 2) (omega arith) in
+          inv ∙ turn i (omega arith) ∙ rw (first, second, third)
+
+      pub comment_ends : (start : ℕ) → both ≡ true → get_or p (i + 2) 0 ≡ 62 → Comment start (i + 3) (i + 3) ≡ comment_to p start (searched at)
+      comment_ends start b g = let e : searched at ≡ i + 3 = turn_in ∙ rw (b, g) in rw (e, ne_eqb (i + 3) 0 (λ z. omega arith))
+
+      pub comment_three : both ≡ true → (get_or p (i + 2) 0 ≡ 62 → ⊥) → searched at ≡ searched (i + 3)
+      comment_three b g = turn_in ∙ rw (b, ne_eqb (get_or p (i + 2) 0) 62 g)
+
+      pub comment_one : both ≡ false → searched at ≡ searched (skip (other 45) p (i + 1))
+      comment_one b = turn_in ∙ rw b (passed (i + 1))
+
+    pub comment_over : (start : ℕ) → top ≤ i → Comment start start (length p) ≡ comment_to p start (searched at)
+    comment_over start h = rw (inv, comment_none (length p) p i (omega arith))

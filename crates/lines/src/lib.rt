@@ -2,7 +2,7 @@
 
 #![tactic(auto)]
 
-ghost use Rattle.std.specs.Prelude.{◌≡◌, true, [], ◌∷◌, ◌++◌, ℕ, length, flat_map, Ok};
+ghost use Rattle.std.specs.Prelude.{◌≡◌, true, [], ◌∷◌, ℕ, length, flat_map, Ok};
 ghost use Rattle.rules.specs.Sound.{sound};
 ghost use Rattle.rules.specs.Refusals.{Counts, number_of};
 ghost use Rattle.lines.specs.Lines.{field, kind_name, parent_name, tag_name, NameWithin};
@@ -57,7 +57,7 @@ impl<'a> Writer<'a> {
         self.put(digits.format(n).as_bytes());
     }
 
-    // A space and a word.
+    // A space and a word; `put_field` is the same for a number.
     pub fn put_word(&mut self, word: &[u8])
         ensures { Puts self.old (field word.now) self.new }
     {
@@ -84,13 +84,12 @@ impl<'a> Writer<'a> {
 
     // ---- the lines
 
-    fn put_parent(&mut self, parent: u32)
-        ensures { Puts self.old (field (parent_name parent)) self.new }
+    fn put_parent(&mut self, n: Node)
+        ensures { Puts self.old (field (parent_name n.parent)) self.new }
     {
-        if parent == 0 {
-            self.put_word(b"-");
-        } else {
-            self.put_field(parent - 1);
+        match n.parent() {
+            Some(h) => self.put_field(h),
+            None => self.put_word(b"-"),
         }
     }
 
@@ -99,7 +98,7 @@ impl<'a> Writer<'a> {
         requires { NameWithin page.now n }
         ensures { Puts self.old (tag_name page.now n) self.new }
     {
-        if n.kind != 1 {
+        if !n.is_tag() {
             return;
         }
         let name = &page[n.name as usize..n.stop as usize];
@@ -114,8 +113,8 @@ impl<'a> Writer<'a> {
         ensures { Puts self.old (node_line page.now h n) self.new }
     {
         self.put_number(h);
-        self.put_word(kind_name(n.kind));
-        self.put_parent(n.parent);
+        self.put_word(kind_name(n));
+        self.put_parent(n);
         self.put_field(n.start);
         self.put_field(n.end);
         self.put_field(n.last);
@@ -156,21 +155,21 @@ impl<'a> Writer<'a> {
         ensures same { self.new.out.ghost_name ≡ self.old.out.ghost_name }
     {
         if self.out.len() < self.at {
-            self.out.fill(0);
-            return Err(Refusal::BufferTooShort);
+            return table::refuse(self.out, Refusal::BufferTooShort);
         }
         Ok(self.at)
     }
 }
 
-// A kind is a number here, since it is the word of a row that a program in C reads too.
-fn kind_name(kind: u32) -> &'static [u8]
-    ensures { result.now ≡ kind_name kind }
+fn kind_name(n: Node) -> &'static [u8]
+    ensures { result.now ≡ kind_name n.kind }
 {
-    match kind {
-        1 => b"tag",
-        2 => b"text",
-        _ => b"comment",
+    if n.is_tag() {
+        b"tag"
+    } else if n.is_text() {
+        b"text"
+    } else {
+        b"comment"
     }
 }
 

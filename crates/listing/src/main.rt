@@ -4,7 +4,7 @@
 
 ghost use Rattle.listing.specs.Lists.{Lists};
 
-use rules::Refusal;
+use rules::{PAGE_LIMIT, Refusal};
 use std::io;
 use std::io::Print;
 
@@ -16,11 +16,11 @@ fn list(page: &[u8], table: &mut [u32], out: &mut [u8]) -> Result<usize, Refusal
     lines::answer(page, table, read, out)
 }
 
-// A page of 65,537 bytes is too long, whatever follows them. The table has a header of 8 words and 1,819 rows of 9.
+// A page of one byte more than the limit is too long, whatever follows. The table has a header of 8 words and 1,819 rows of 9.
 // A listing has at most 129,222 bytes, so it is never refused for lack of room: a first line of 21, `nodes 1819 version 5`;
 // 1,819 lines of 35 without the names, `1818 comment 1817 65535 65536 1818`; and the names, which lie apart in the page.
 fn main(rt: HostRuntime) -> io::Result<()> {
-    let mut page = [0u8; 65537];
+    let mut page = [0u8; PAGE_LIMIT + 1];
     let mut table = [0u32; 16379];
     let mut out = [0u8; 129222];
     let n = input::read_full(&mut rt.stdin(), &mut page)?;

@@ -59,21 +59,21 @@ module _ {white : ℕ → Bool} {p t t₂ : List ℕ} {r : Result ℕ Refusal} w
   unfolding parse_table
   answers q e w = record { answer = q ∙ sym e; table = rw e w }
 
-  pub parses_long : page_limit < length p → Refuses t PageTooLong r t₂ → Parses white is_void p t t₂ r
+  pub parses_long : page_limit < length p → Refuses 0 t PageTooLong r t₂ → Parses white is_void p t t₂ r
   unfolding parse_answer
   parses_long l Z = answers Z.is (rw (lt-ltb page_limit (length p) l)) Z.left
 
   module _ (l : length p ≤ page_limit) where
-    none : length t < row_at (count_by white p) → Refuses t TableTooSmall r t₂ → Parses white is_void p t t₂ r
+    none : length t < row_at (count_by white p) → Refuses 0 t TableTooSmall r t₂ → Parses white is_void p t t₂ r
     unfolding parse_answer
     none m Z = answers Z.is (rw (le-ltb page_limit (length p) l, lt-ltb (length t) (row_at (count_by white p)) m)) Z.left
 
-    pub parses_short : length t < head_words → Refuses t TableTooSmall r t₂ → Parses white is_void p t t₂ r
+    pub parses_short : length t < head_words → Refuses 0 t TableTooSmall r t₂ → Parses white is_void p t t₂ r
     parses_short m = none (omega arith)
 
     -- the steps ran, from t to t₁
     module _ (h : head_words ≤ length t) {t₁ : List ℕ} {r₁ : Option State} (X : Run white p (length p) t start t₁ r₁) where
-      pub parses_full : r₁ ≡ None → length t₁ ≡ length t → Refuses t₁ TableTooSmall r t₂ → Parses white is_void p t t₂ r
+      pub parses_full : r₁ ≡ None → length t₁ ≡ length t → Refuses 0 t₁ TableTooSmall r t₂ → Parses white is_void p t t₂ r
       parses_full full e Z =
           let m = X.full t (take head_words t) begin (held_begin t h) (good_begin white p) full in
           none (rw (count_same white p) m) (record { is = Z.is; left = rw (← e) Z.left })

@@ -1,6 +1,6 @@
 -- The loop over the steps: whatever reading was held at first, what is held now has the rest of the steps left.
 use Rattle.std.proofs.Common.{Option, Some, None}
-use mathlib.Core.Path.{◌≡◌, refl, ap, ◌∙◌}
+use mathlib.Core.Path.{◌≡◌, ap, ◌∙◌}
 use mathlib.Core.Bool.{Bool}
 use mathlib.Core.List.{List}
 use Prim.Native.Nat.{ℕ, suc, ◌-◌, ◌≤◌, ◌<◌}
@@ -27,9 +27,6 @@ pub record Came (white : ℕ → Bool) (p : List ℕ) (n k : ℕ) (t₁ t hd : L
 pub record Along (white : ℕ → Bool) (p : List ℕ) (n : ℕ) (t₀ : List ℕ) (s₀ : State) (t₁ : List ℕ) (s : State) (k : ℕ) : Type 0 where
   pub size : length t₁ ≡ length t₀
   pub came : (t hd : List ℕ) (R₀ : Reading) → Held t₀ t hd R₀ s₀ → Good white p R₀ → Came white p n k t₁ t hd s R₀
-
-pub along_begin : {white : ℕ → Bool} {p : List ℕ} {n : ℕ} {t₀ : List ℕ} {s₀ : State} → Along white p n t₀ s₀ t₀ s₀ n
-along_begin = record { size = refl; came = λ t hd R₀ H G. record { R = R₀; held = H; good = G; rest = refl } }
 
 module _ {white : ℕ → Bool} {p : List ℕ} {n k : ℕ} {t₀ t₁ : List ℕ} {s₀ s : State} (A : Along white p n t₀ s₀ t₁ s k) where
   -- ---- no step is left, or no byte

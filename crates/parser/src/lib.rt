@@ -5,17 +5,15 @@
 ghost use Rattle.std.specs.Prelude.{◌≤◌, length};
 ghost use Rattle.rules.specs.Bytes.{is_white};
 ghost use Rattle.rules.specs.Names.{is_void};
-ghost use Rattle.rules.specs.Refusals.{Refuses, page_limit};
+ghost use Rattle.rules.specs.Refusals.{page_limit};
 ghost use Rattle.scan.specs.Marks.{white_in};
 ghost use Rattle.parser.specs.Parsing.{Reads, Run, Holds, Finished, Parses};
 
-use rules::{Refusal, State};
+use rules::{PAGE_LIMIT, Refusal, State};
 use scan::Marks;
 
-// The longest page that is read, in bytes.
-pub const PAGE_LIMIT: usize = 65536;
-
-// Up to `budget` steps of the reader from a state on. It stops early at the end of the page, and where there is no room for a row.
+// Up to `budget` steps of the reader from a state on. It stops early at the end of the page, and where there is no room for a row. The
+// steps are counted because the rules count them (`steps`).
 fn parse_single(
     table: &mut [u32],
     t: &Marks,
@@ -66,7 +64,7 @@ pub fn parse(page: &[u8], table: &mut [u32]) -> Result<usize, Refusal>
         inner: 0,
         version: 0,
     };
-    // Each step passes a byte or more, so that the page's length is budget enough.
+    // Each step passes a byte or more, so that the page's length is budget enough. From here on the page is within the limit.
     let Some(s) = parse_single(table, &t, page, start, len) else {
         return table::refuse(table, Refusal::TableTooSmall);
     };

@@ -12,6 +12,7 @@ use rules::{Joiner, Piece, Simple, Span};
 pub const WORDS: usize = 6;
 
 // The six words of a piece: its kind, the places of its first and its second name, 0 and 0 where a name is missing, and its joiner.
+// Not a `From`, which would have to stand in `rules`, beside the type and apart from the reading back.
 fn words_of(p: Piece) -> [u32; WORDS]
     ensures { result ≡ simple_words p.simple p.joiner }
 {
@@ -57,7 +58,7 @@ fn simple_from(kind: u32, a: Span, b: Span) -> Simple
     }
 }
 
-// The joiner of a word. Not a `From`, since only here a word that is no joiner's ends the chain.
+// The joiner of a word. Not a `From`, which would have to stand in `rules`, and since only here a word that is no joiner's ends the chain.
 fn joiner_from(word: u32) -> Joiner
     ensures { result ≡ joiner_from word }
 {
@@ -70,7 +71,7 @@ fn joiner_from(word: u32) -> Joiner
     }
 }
 
-// Piece i of a written chain.
+// Piece i of a written chain. Word by word: a slice becomes an array only by a conversion that may fail.
 pub fn piece_at(words: &[u32], i: usize) -> Piece
     requires { piece_words * i + piece_words ≤ length words.now }
     ensures { result ≡ piece_at words.now i }
@@ -91,7 +92,8 @@ pub fn piece_at(words: &[u32], i: usize) -> Piece
     }
 }
 
-// A selector that was read: its text, of which the pieces name parts, and the words that its pieces are written in.
+// A selector that was read: its text, of which the pieces name parts, and the words that its pieces are written in. `pieces` stands
+// beside them, since words cut to size are no plainer: they need the fact that six divides their number.
 #[derive(Clone, Copy)]
 pub struct Chain<'a> {
     pub text: &'a [u8],

@@ -1,22 +1,28 @@
 -- Runs of bytes that are compared with no early exit, and a name of a profile by the bytes of its place.
 use mathlib.Core.Path.{◌≡◌, refl, sym, ap, ◌∙◌}
-use mathlib.Core.Bool.{Bool, true, false, ◌&&◌}
+use mathlib.Core.Bool.{Bool, true, false, not, cond, ◌&&◌}
 use mathlib.Core.List.{List, [], ◌∷◌}
-use Prim.Native.Nat.{ℕ, ◌+◌, ◌-◌, ◌≤◌, ◌<◌}
+use Prim.Native.Nat.{ℕ, suc, ◌+◌, ◌-◌, ◌≤◌, ◌<◌}
 use native.Mathlib.Decide.{dec_lt}
 use native.Mathlib.Omega.{arith}
 use lib.Dec.{eqb}
 use lib.ListN.{length, get_or, take, drop, length-take, length-drop}
-use lib.Seq.{ext_get_or, get_or-take, get_or-drop, drop-cons}
-use borrow.Author.Tests.{eq-eqb, eqb-true}
-use Rattle.rules.specs.Bytes.{other}
-use Rattle.rules.specs.Scan.{agree, same, span, part}
+use lib.Seq.{ext_get_or, get_or-take, get_or-drop}
+use borrow.Author.Tests.{eq-eqb, eqb-true, lt-ltb, le-ltb}
+use Rattle.std.specs.Prelude.{Option}
+use Rattle.std.specs.Option.{unwrap_or}
+use Rattle.std.specs.List.{position, position_or_len}
+use Rattle.std.proofs.lemmas.List.{drop-take}
+use Rattle.std.proofs.lemmas.List.Recursion.{is_position_or_len}
+use Rattle.rules.specs.Bytes.{is, other}
+use Rattle.rules.specs.Scan.{pick, agree, same, span, part}
 use Rattle.rules.specs.Sound.{all}
-use Rattle.rules.specs.Profile.{name_start, name_byte, name_of}
+use Rattle.rules.specs.Profile.{name_start, name_of}
 use Rattle.rules.proofs.Names.{same_is}
 use Rattle.rules.proofs.Runs.{span_le}
-use Rattle.rules.proofs.Sound.{and_left, and_right, all_true, all_from}
-use Rattle.rules.proofs.Profile.{FineProfile, name_stop, name_byte_lem, ends_here}
+use Rattle.std.proofs.lemmas.Bool.{and_parts}
+use Rattle.rules.proofs.Sound.{all_true, all_from}
+use Rattle.rules.proofs.Profile.{name_byte_lem}
 use Rattle.profile.specs.Made.{same_run}
 
 iff : (a b : Bool) → (a ≡ true → b ≡ true) → (b ≡ true → a ≡ true) → a ≡ b
@@ -44,10 +50,10 @@ module _ (p : List ℕ) (a : ℕ) (q : List ℕ) (c n : ℕ) where
       qc j = omega arith
 
       join : (all P k && all Q m) ≡ true → (j : ℕ) → j < n → Dec (j < k) → P j ≡ true
-      join e j h (yes y) = all_true P k j (and_left (all P k) (all Q m) e) y
+      join e j h (yes y) = all_true P k j (and_parts (all P k) (all Q m) e).0 y
       join e j h (no y) =
           let z : n - m + (j - (n - m)) ≡ j = omega arith in
-          rw (pa (j - (n - m)), qc (j - (n - m)), z) at (all_true Q m (j - (n - m)) (and_right (all P k) (all Q m) e) (omega arith))
+          rw (pa (j - (n - m)), qc (j - (n - m)), z) at (all_true Q m (j - (n - m)) (and_parts (all P k) (all Q m) e).1 (omega arith))
 
   same_self : (x : List ℕ) → same x x ≡ true
   unfolding agree
@@ -79,6 +85,15 @@ part_runs p a q c n l m =
     sym (run_same p a q c n (part p a (a + n)) (part q c (c + n)) (part_length p a (a + n) l ∙ omega arith) (part_length q c (c + n) m ∙ omega arith)
     (λ j h. part_byte p a (a + n) j (omega arith)) (λ j h. part_byte q c (c + n) j (omega arith)))
 
+-- the bytes before the first 0
+first_zero : (xs : List ℕ) → span (other 0) xs ≡ position_or_len (is 0) xs
+unfolding span
+first_zero = is_position_or_len (span (other 0)) (is 0) refl (λ x xs. step (is 0 x) (span (other 0) xs))
+  where
+    step : (b : Bool) (n : ℕ) → pick (not b) (suc n) 0 ≡ cond b 0 (1 + n)
+    step true n = refl
+    step false n = omega arith
+
 module _ (q : List ℕ) (size : length q ≡ 392) (i : ℕ) (b : i < 24) where
   pub name_short : length (name_of q i) ≤ 16
   unfolding name_of
@@ -87,33 +102,44 @@ module _ (q : List ℕ) (size : length q ≡ 392) (i : ℕ) (b : i < 24) where
       let t : List ℕ = drop s (take (s + 16) q) in
       omega (arith, length-take (s + span (other 0) t - s) (drop s q), span_le (other 0) t, length-drop s (take (s + 16) q), length-take (s + 16) q)
 
-  -- a place whose first byte is 0 has no name
-  no_name : name_byte q i 0 ≡ 0 → 0 ≡ length (name_of q i)
-  unfolding name_of span
-  no_name e =
-      let s : ℕ = name_start q i in
-      let t : List ℕ = take (s + 16) q in
-      let h : s < length t = omega (arith, length-take (s + 16) q) in
-      let o : s + 0 ≡ s = omega arith in
-      let g : get_or t s 0 ≡ 0 = get_or-take (s + 16) q s 0 (omega arith) ∙ (rw o at e) in
-      let z : span (other 0) (drop s t) ≡ 0 = rw (drop-cons t s 0 h, g) refl in
-      omega (arith, z, length-take (s + span (other 0) (drop s t) - s) (drop s q))
+  -- the name ends at the first 0 of its place, or with it
+  pub name_first : (r : Option ℕ) → r ≡ position (is 0) (take 16 (drop (name_start q i) q))
+      → (unwrap_or r 16 ≡ length (name_of q i)) × (unwrap_or r 16 ≤ 16)
+  unfolding name_of
+  name_first r e = rw e (go (dec_lt n 16))
+    where
+      s : ℕ
+      s = name_start q i
 
-  module _ (F : FineProfile q) where
-    -- the name ends before the first 0, or with its place
-    pub name_ends : (n : ℕ) → n ≤ 16 → (0 < n → name_byte q i (n - 1) ≡ 0 → ⊥) → (n < 16 → name_byte q i n ≡ 0) → n ≡ length (name_of q i)
-    unfolding name_of
-    name_ends n l f g = go (dec_lt 0 n)
-      where
-        go : Dec (0 < n) → n ≡ length (name_of q i)
-        go (yes p) =
-            let e = ends_here q i b F n p l (f p) g in
-            omega (arith, e, length-take (name_stop q i b - name_start q i) (drop (name_start q i) q), length-drop (name_start q i) q)
-        go (no p) = let z : n ≡ 0 = omega arith in rw z (no_name (rw z at (g (omega arith))))
+      xs : List ℕ
+      xs = take 16 (drop (name_start q i) q)
 
-    -- a part of a page that is as long as the name is compared with its place
-    pub name_run : (p : List ℕ) (a e : ℕ) → a ≤ e → e ≤ length p → length (name_of q i) ≡ e - a
-        → same_run p a q (name_start q i) (e - a) ≡ same (part p a e) (name_of q i)
-    name_run p a e l m n =
-        run_same p a q (name_start q i) (e - a) (part p a e) (name_of q i) (part_length p a e m) n
-        (part_byte p a e) (λ j h. name_byte_lem q i b F j (omega (arith, name_short)))
+      n : ℕ
+      n = position_or_len (is 0) xs
+
+      low : n ≤ 16
+      low = omega (arith, span_le (other 0) xs, first_zero xs, length-take 16 (drop s q))
+
+      size_of : length (name_of q i) ≡ n
+      size_of =
+          omega (
+            arith,
+            low,
+            length-take (s + span (other 0) (drop s (take (s + 16) q)) - s) (drop s q),
+            length-drop s q,
+            ap (span (other 0)) (drop-take s 16 q) ∙ first_zero xs,
+          )
+
+      full : length xs ≡ 16
+      full = omega (arith, length-take 16 (drop s q), length-drop s q)
+
+      go : Dec (n < 16) → (unwrap_or (position (is 0) xs) 16 ≡ length (name_of q i)) × (unwrap_or (position (is 0) xs) 16 ≤ 16)
+      go (yes y) = rw (lt-ltb n (length xs) (omega (arith, full))) (sym size_of, low)
+      go (no y) = rw (le-ltb n (length xs) (omega (arith, full))) (omega (arith, size_of, low), omega arith)
+
+  -- a part of a page that is as long as the name is compared with its place
+  pub name_run : (p : List ℕ) (a e : ℕ) → a ≤ e → e ≤ length p → length (name_of q i) ≡ e - a
+      → same_run p a q (name_start q i) (e - a) ≡ same (part p a e) (name_of q i)
+  name_run p a e l m n =
+      run_same p a q (name_start q i) (e - a) (part p a e) (name_of q i) (part_length p a e m) n
+      (part_byte p a e) (λ j h. name_byte_lem q i j (omega arith))

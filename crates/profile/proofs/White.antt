@@ -1,10 +1,11 @@
 -- The white bytes of a profile, set one after the other.
-use mathlib.Core.Path.{◌≡◌, refl}
+use mathlib.Core.Path.{◌≡◌, refl, ◌∙◌}
 use mathlib.Core.Bool.{Bool, true, false, not, ◌&&◌, ◌||◌}
 use mathlib.Core.List.{List}
 use Prim.Native.Nat.{ℕ, zero, suc, ◌+◌, ◌≤◌, ◌<◌}
 use native.Mathlib.Omega.{arith}
-use lib.ListN.{get_or}
+use lib.ListN.{get_or, take, drop}
+use lib.Seq.{get_or-take, get_or-drop}
 use Rattle.rules.specs.Bytes.{is}
 use Rattle.rules.specs.Scan.{pick}
 use Rattle.rules.proofs.Profile.{FineProfile}
@@ -13,6 +14,10 @@ use Rattle.rules.proofs.Profile.{FineProfile}
 abbrev pub among : List ℕ → ℕ → ℕ → Bool
 among q zero b = false
 among q (suc k) b = among q k b || is (get_or q (4 + k) 0) b
+
+-- one of the four
+pub white_byte : (q : List ℕ) (k : ℕ) → k < 4 → get_or (take 4 (drop 4 q)) k 0 ≡ get_or q (4 + k) 0
+white_byte q k h = get_or-take 4 (drop 4 q) k 0 h ∙ get_or-drop 4 q k 0
 
 pub white_low : {q : List ℕ} → FineProfile q → (k : ℕ) → k < 4 → get_or q (4 + k) 0 ≤ 32
 white_low F zero h = F.white4

@@ -1,7 +1,8 @@
 -- What is made of a profile once a call, and lent down: where to look for a name.
-use Rattle.std.specs.Prelude.{◌≡◌, Bool, true, List, ℕ, suc, ◌+◌, ◌*◌, ◌-◌, ◌%◌, ◌≤◌, ◌<◌, eqb, length, get_or}
+use Rattle.std.specs.Prelude.{◌≡◌, Bool, true, false, List, ℕ, suc, ◌+◌, ◌*◌, ◌-◌, ◌%◌, ◌≤◌, ◌<◌, eqb, length, get_or}
 use Rattle.rules.specs.Sound.{all}
-use Rattle.rules.specs.Profile.{name_of, profile_fine, tl_profile}
+use Rattle.rules.specs.Profile.{name_of, tl_profile}
+use Rattle.profile.specs.declared.Heads.{Heads}
 
 -- k bytes of p from a on are those of q from c on
 abbrev pub same_run : List ℕ → ℕ → List ℕ → ℕ → ℕ → Bool
@@ -14,29 +15,23 @@ slot_by first last n = (9 * first + last + 5 * (n % 256)) % 256
 abbrev pub slot_of : List ℕ → ℕ
 slot_of xs = slot_by (get_or xs 0 0) (get_or xs (length xs - 1) 0) (length xs)
 
--- The table t of 305 bytes: at a slot the last name that has it, then a link for each name to the one before it of its slot, then the
--- length of each name. A slot and a link hold the number of a name plus 1, or 0. The last byte is 1 for tl's profile, and then all others
--- are 0: its names are fixed, and compared as such.
+-- A slot and a link hold the number of a name plus 1, or 0.
 
--- from what a slot or a link holds one comes to name k
+-- from what a slot or a link holds one comes to name k by the links
 pub data Leads : List ℕ → ℕ → ℕ → Type 0 where
-  here : {t : List ℕ} {k : ℕ} → Leads t (suc k) k
-  later : {t : List ℕ} {i k : ℕ} → Leads t (get_or t (256 + i) 0) k → Leads t (suc i) k
+  here : {links : List ℕ} {k : ℕ} → Leads links (suc k) k
+  later : {links : List ℕ} {i k : ℕ} → Leads links (get_or links i 0) k → Leads links (suc i) k
 
 -- t has the first m names of q
-pub record Filled (q t : List ℕ) (m : ℕ) : Type 0 where
-  pub size : length t ≡ 305
-  pub slots : (s : ℕ) → s < 256 → get_or t s 0 ≤ m
-  pub links : (k : ℕ) → k < 24 → get_or t (256 + k) 0 ≤ k
-  pub lengths : (k : ℕ) → k < m → get_or t (280 + k) 0 ≡ length (name_of q k)
-  pub leads : (k : ℕ) → k < m → 0 < length (name_of q k) → Leads t (get_or t (slot_of (name_of q k)) 0) k
-  pub others : get_or t 304 0 ≡ 0
+pub record Filled (q : List ℕ) (t : Heads) (m : ℕ) : Type 0 where
+  pub slots : length t.first ≡ 256
+  pub names : (length t.links ≡ 24) × (length t.lengths ≡ 24)
+  pub firsts : (s : ℕ) → s < 256 → get_or t.first s 0 ≤ m
+  pub links : (k : ℕ) → k < 24 → get_or t.links k 0 ≤ k
+  pub lengths : (k : ℕ) → k < m → get_or t.lengths k 0 ≡ length (name_of q k)
+  pub leads : (k : ℕ) → k < m → 0 < length (name_of q k) → Leads t.links (get_or t.first (slot_of (name_of q k)) 0) k
 
--- all of them
-pub record Listed (q t : List ℕ) : Type 0 where
-  pub fine : profile_fine q ≡ true
-  pub filled : Filled q t 24
-
-pub record Heads (q t : List ℕ) : Type 0 where
-  pub fixed : get_or t 304 0 ≡ 1 → q ≡ tl_profile
-  pub listed : (get_or t 304 0 ≡ 1 → ⊥) → Listed q t
+-- what is_fixed and t tell of q's names: they are tl's, or t has them all
+pub record Prepared (q : List ℕ) (is_fixed : Bool) (t : Heads) : Type 0 where
+  pub fixed : is_fixed ≡ true → q ≡ tl_profile
+  pub listed : is_fixed ≡ false → Filled q t 24

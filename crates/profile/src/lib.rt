@@ -2,38 +2,37 @@
 
 #![tactic(auto)]
 
-ghost use Rattle.std.specs.Prelude.{◌≡◌, true, ◌+◌, ◌≤◌, ◌<◌, length};
+ghost use Rattle.std.specs.Prelude.{◌≡◌, ◌↔◌, true, false, ◌+◌, ◌≤◌, ◌<◌, length, IsSome, IfSome};
 ghost use Rattle.rules.specs.Bytes.{is_ident};
 ghost use Rattle.rules.specs.Scan.{part, same};
 ghost use Rattle.rules.specs.Profile.{limit_of, white_of, name_of, void_of, name_fine, numbers_fine, profile_fine, tl_profile};
 ghost use Rattle.scan.specs.Marks.{white_in};
-ghost use Rattle.profile.specs.Made.{same_run, slot_by, Filled, Listed, Heads};
+ghost use Rattle.profile.specs.Made.{same_run, slot_by, Filled, Prepared};
 
+use rules::PAGE_LIMIT;
 use scan::Marks;
 
-// Where the four white bytes are.
+// A profile: the limit, a word; then the white bytes; then the void names, each in a place of its own.
 const WHITE: usize = 4;
 
-// Void names in a profile, where the first starts, and the bytes of a place.
-const NAMES: usize = 24;
+const WHITES: usize = 4;
 
-const FIRST: usize = 8;
+const FIRST: usize = WHITE + WHITES;
 
 const PLACE: usize = 16;
 
-// In the table of `heads`, where the links and the lengths start.
-const LINKS: usize = 256;
+const NAMES: usize = 24;
 
-const LENGTHS: usize = 280;
+pub const SIZE: usize = FIRST + PLACE * NAMES;
 
-// Where it says that the profile is tl's.
-const FIXED: usize = 304;
+// The highest white byte.
+const SPACE: u8 = b' ';
 
-// The longest page that a profile may allow.
-const MOST: usize = 65536;
+// Names are looked for by slots.
+const SLOTS: usize = 256;
 
 // tl's profile: 65,536 bytes, space and line feed, and its 15 names, 16 bytes to a line.
-const TL: [u8; 392] = *b"\
+const TL: [u8; SIZE] = *b"\
     \x00\x00\x01\x00\x20\x0a\x00\x00\
     area\x00\x00\x00\x00\x00\x00\x00\x00\x00\x00\x00\x00\
     base\x00\x00\x00\x00\x00\x00\x00\x00\x00\x00\x00\x00\
@@ -61,17 +60,19 @@ const TL: [u8; 392] = *b"\
     \x00\x00\x00\x00\x00\x00\x00\x00\x00\x00\x00\x00\x00\x00\x00\x00";
 
 // The profile that reads as tl does.
-pub fn tl() -> [u8; 392]
+pub fn tl() -> [u8; SIZE]
     ensures { result ≡ tl_profile }
 {
     TL
 }
 
 // The longest page that is read.
-pub fn limit(profile: &[u8; 392]) -> usize
-    ensures { result ≡ limit_of profile.now }
+#[tactic(auto, unfolding(rules::specs::Profile::limit_of))]
+pub fn limit(bytes: &[u8; SIZE]) -> usize
+    ensures { result ≡ limit_of bytes.now }
 {
-    u32::from_le_bytes([profile[0], profile[1], profile[2], profile[3]]) as usize
+    let [a, b, c, d, ..] = *bytes;
+    u32::from_le_bytes([a, b, c, d]) as usize
 }
 
 // ---- the test of a profile
@@ -90,130 +91,58 @@ fn is_ident(b: u8) -> bool
         | (b == b'/')
 }
 
-// Whether name i is identifier bytes and then zeros. It has no early exit.
-fn name_fine(profile: &[u8; 392], i: usize) -> bool
-    requires { i < 24 }
-    ensures { result ≡ name_fine profile.now i }
+// Whether name i is identifier bytes and then zeros. It has no early exit, so that 16 bytes are tested at once.
+fn name_fine(bytes: &[u8; SIZE], i: usize) -> bool
+    requires { i < NAMES }
+    ensures { result ≡ name_fine bytes.now i }
 {
     let a = FIRST + PLACE * i;
     let mut ok = true;
     for j in 0..PLACE {
-        let b = profile[a + j];
-        let before = profile[a + j - 1];
+        let b = bytes[a + j];
+        let before = bytes[a + j - 1];
         ok &= (b == 0) | (is_ident(b) & ((j == 0) | (before != 0)));
     }
     ok
 }
 
-// Whether the limit and the white bytes are within theirs.
-fn numbers_fine(profile: &[u8; 392]) -> bool
-    ensures { result ≡ numbers_fine profile.now }
+// Whether the limit is from 1 to the longest page, and no white byte above the space. With `all` over the four the test of a profile took a fortieth longer.
+#[tactic(auto, unfolding(rules::specs::Profile::numbers_fine))]
+fn numbers_fine(bytes: &[u8; SIZE]) -> bool
+    ensures { result ≡ numbers_fine bytes.now }
 {
-    let n = limit(profile);
-    (1 <= n)
-        & (n <= MOST)
-        & ((profile[4] <= 32) & (profile[5] <= 32) & (profile[6] <= 32) & (profile[7] <= 32))
+    let n = limit(bytes);
+    let [_, _, _, _, a, b, c, d, ..] = *bytes;
+    (1 <= n) & (n <= PAGE_LIMIT) & ((a <= SPACE) & (b <= SPACE) & (c <= SPACE) & (d <= SPACE))
 }
 
 // Whether the limit, the white bytes and the names are within their limits. It has no early exit either.
-fn all_fine(profile: &[u8; 392]) -> bool
-    ensures { result ≡ profile_fine profile.now }
+fn all_fine(bytes: &[u8; SIZE]) -> bool
+    ensures { result ≡ profile_fine bytes.now }
 {
-    let mut ok = numbers_fine(profile);
+    let mut ok = numbers_fine(bytes);
     for i in 0..NAMES {
-        ok &= name_fine(profile, i);
+        ok &= name_fine(bytes, i);
     }
     ok
 }
 
 // Whether the profile is tl's, byte for byte.
-fn is_tl(profile: &[u8; 392]) -> bool
-    ensures { result ≡ true → profile.now ≡ tl_profile }
+fn is_tl(bytes: &[u8; SIZE]) -> bool
+    ensures { result ≡ true → bytes.now ≡ tl_profile }
 {
-    *profile == TL
+    *bytes == TL
 }
 
 // Whether the profile is within its limits. tl's own costs a comparison alone.
-pub fn is_fine(profile: &[u8; 392]) -> bool
-    ensures { result ≡ profile_fine profile.now }
+#[tactic(auto, using(rules::proofs::Profile::fine_tl))]
+pub fn is_fine(bytes: &[u8; SIZE]) -> bool
+    ensures { result ≡ profile_fine bytes.now }
 {
-    is_tl(profile) || all_fine(profile)
+    is_tl(bytes) || all_fine(bytes)
 }
 
-// ---- what is white
-
-// The marks with the profile's white bytes in place of tl's.
-pub fn mark_table(profile: &[u8; 392]) -> Marks
-    requires { profile_fine profile.now ≡ true }
-    ensures { white_in result ≡ white_of profile.now }
-{
-    let mut t = Marks::new();
-    t.set_white(b'\n', false);
-    t.set_white(b' ', false);
-    for k in 0..4 {
-        t.set_white(profile[WHITE + k], true);
-    }
-    // An unused place holds 0, and byte 0 is not white for that.
-    t.set_white(0, false);
-    t
-}
-
-// ---- what is void
-
-// A name's slot, by its first byte, its last and its length.
-fn slot(first: u8, last: u8, n: usize) -> usize
-    ensures { (result ≡ slot_by first last n) × (result < 256) }
-{
-    (9 * usize::from(first) + usize::from(last) + 5 * (n % 256)) % 256
-}
-
-// How many bytes name i has.
-fn name_len(profile: &[u8], i: usize) -> usize
-    requires { (length profile.now ≡ 392) × (i < 24) × (profile_fine profile.now ≡ true) }
-    ensures { (result ≡ length (name_of profile.now i)) × (result ≤ 16) }
-{
-    let a = FIRST + PLACE * i;
-    for n in 0..PLACE {
-        if profile[a + n] == 0 {
-            return n;
-        }
-    }
-    PLACE
-}
-
-// Puts name i, if there is one, before the others of its slot.
-fn put_name(profile: &[u8; 392], i: u8, t: &mut [u8; 305])
-    requires { (i < 24) × (profile_fine profile.now ≡ true) × Filled profile.now t.old i }
-    ensures { Filled profile.now t.new (i + 1) }
-{
-    let k = usize::from(i);
-    let n = name_len(profile, k);
-    t[LENGTHS + k] = n as u8;
-    if n == 0 {
-        return;
-    }
-    let a = FIRST + PLACE * k;
-    let s = slot(profile[a], profile[a + n - 1], n);
-    let next = t[s];
-    t[LINKS + k] = next;
-    t[s] = i + 1;
-}
-
-// Where to look for a name: see `Filled`.
-pub fn heads(profile: &[u8; 392]) -> [u8; 305]
-    requires { profile_fine profile.now ≡ true }
-    ensures { Heads profile.now result }
-{
-    let mut t = [0u8; 305];
-    if is_tl(profile) {
-        t[FIXED] = 1;
-        return t;
-    }
-    for i in 0..24 {
-        put_name(profile, i, &mut t);
-    }
-    t
-}
+// ---- names compared: parts by their places, not slices, which would be cut once more for each of the two ends
 
 // Whether k bytes from a on are those from c on. It has no early exit, so that they are compared at once. Not `==` or a chain: with
 // those the comparison of a void name of 4 to 8 bytes takes twice as long and more.
@@ -229,6 +158,7 @@ fn is_run(p: &[u8], a: usize, q: &[u8], c: usize, k: usize) -> bool
 }
 
 // Whether n bytes from a on are those from c on: the first k and the last m of them, which may overlap.
+#[tactic(auto, using(crate::proofs::Compared::both_runs))]
 fn is_both(p: &[u8], a: usize, q: &[u8], c: usize, n: usize, k: usize, m: usize) -> bool
     requires { (a + n ≤ length p.now) × (c + n ≤ length q.now) × (k ≤ n) × (m ≤ n) × (n ≤ k + m) }
     ensures { result ≡ same_run p.now a q.now c n }
@@ -237,68 +167,195 @@ fn is_both(p: &[u8], a: usize, q: &[u8], c: usize, n: usize, k: usize, m: usize)
 }
 
 // The same with k and m fixed by n, so that the loops over a short name are of a known length.
+#[tactic(auto, using(crate::proofs::Compared::part_runs))]
 fn is_bytes(p: &[u8], a: usize, q: &[u8], c: usize, n: usize) -> bool
     requires { (a + n ≤ length p.now) × (c + n ≤ length q.now) × (0 < n) }
     ensures { result ≡ same_run p.now a q.now c n }
 {
-    if n < 4 {
-        if n < 2 {
-            return is_both(p, a, q, c, n, 1, 1);
+    match n {
+        0..=1 => is_both(p, a, q, c, n, 1, 1),
+        2..=3 => is_both(p, a, q, c, n, 2, 1),
+        4..=8 => is_both(p, a, q, c, n, 4, 4),
+        _ => constants::is_same(&p[a..a + n], &q[c..c + n]),
+    }
+}
+
+// ---- a profile
+
+// The bytes of a profile that is within its limits.
+#[derive(Clone, Copy)]
+pub struct Profile<'a> {
+    pub bytes: &'a [u8; SIZE],
+    ghost fine: { profile_fine bytes.now ≡ true },
+}
+
+impl<'a> Profile<'a> {
+    // The profile, if it is within its limits. Not by `then_some`, which would make it before the test.
+    pub fn new(bytes: &'a [u8; SIZE]) -> Option<Profile<'a>>
+        ensures fine { IsSome result ↔ (profile_fine bytes.now ≡ true) }
+        ensures lent { IfSome result (λ p. p.bytes.now ≡ bytes.now) }
+    {
+        if is_fine(bytes) {
+            return Some(Profile { bytes });
         }
-        return is_both(p, a, q, c, n, 2, 1);
+        None
     }
-    if n < 9 {
-        return is_both(p, a, q, c, n, 4, 4);
-    }
-    let b = a + n;
-    let d = c + n;
-    constants::is_same(&p[a..b], &q[c..d])
-}
 
-// Whether name i, which has m bytes, stands from a to e.
-fn is_name(profile: &[u8], i: usize, m: usize, page: &[u8], a: usize, e: usize) -> bool
-    requires { (length profile.now ≡ 392)
-        × (i < 24)
-        × (profile_fine profile.now ≡ true)
-        × (m ≡ length (name_of profile.now i))
-        × (a < e)
-        × (e ≤ length page.now) }
-    ensures { result ≡ same (part page.now a e) (name_of profile.now i) }
-{
-    let n = e - a;
-    if m != n {
-        return false;
+    // The longest page that is read.
+    pub fn limit(&self) -> usize
+        ensures { result ≡ limit_of self.now.bytes.now }
+    {
+        limit(self.bytes)
     }
-    is_bytes(page, a, profile, FIRST + PLACE * i, n)
-}
 
-// Whether the name from a to e is void: it is compared with the names of its slot. The loop counts nothing: it follows their links.
-fn is_listed(profile: &[u8; 392], heads: &[u8; 305], page: &[u8], a: usize, e: usize) -> bool
-    requires { (a ≤ e) × (e ≤ length page.now) × Listed profile.now heads.now }
-    ensures { result ≡ void_of profile.now (part page.now a e) }
-{
-    if a == e {
-        return false;
-    }
-    let s = slot(page[a], page[e - 1], e - a);
-    let mut i = usize::from(heads[s]);
-    while 0 < i {
-        let m = usize::from(heads[LENGTHS + i - 1]);
-        if is_name(profile, i - 1, m, page, a, e) {
-            return true;
+    // The marks with the profile's white bytes in place of tl's.
+    pub fn marks(&self) -> Marks
+        ensures { white_in result ≡ white_of self.now.bytes.now }
+    {
+        let mut t = Marks::new();
+        t.set_white(b'\n', false);
+        t.set_white(b' ', false);
+        let bytes = self.bytes;
+        for b in &bytes[WHITE..FIRST] {
+            t.set_white(*b, true);
         }
-        i = usize::from(heads[LINKS + i - 1]);
+        // An unused place holds 0, and byte 0 is not white for that.
+        t.set_white(0, false);
+        t
     }
-    false
+
+    // How many bytes name i has.
+    fn name_len(&self, i: usize) -> usize
+        requires { i < NAMES }
+        ensures { (result ≡ length (name_of self.now.bytes.now i)) × (result ≤ PLACE) }
+    {
+        let a = FIRST + PLACE * i;
+        let bytes = self.bytes;
+        let place = &bytes[a..a + PLACE];
+        place.iter().position(|b| *b == 0).unwrap_or(PLACE)
+    }
+
+    // Whether name i, which has m bytes, stands from a to e.
+    fn is_name(&self, i: usize, m: usize, page: &[u8], a: usize, e: usize) -> bool
+        requires number { (i < NAMES) × (m ≡ length (name_of self.now.bytes.now i)) }
+        requires part { (a < e) × (e ≤ length page.now) }
+        ensures { result ≡ same (part page.now a e) (name_of self.now.bytes.now i) }
+    {
+        let n = e - a;
+        if m != n {
+            return false;
+        }
+        let bytes = self.bytes;
+        is_bytes(page, a, bytes, FIRST + PLACE * i, n)
+    }
+
+    // The void names. The heads are filled in place: returned by a function they were copied, and took 6 nanoseconds more.
+    pub fn void_names(&self) -> VoidNames<'a>
+        ensures { result.profile.bytes.now ≡ self.now.bytes.now }
+    {
+        let fixed = is_tl(self.bytes);
+        let mut names = VoidNames {
+            profile: *self,
+            fixed,
+            heads: Heads {
+                first: [0; SLOTS],
+                links: [0; NAMES],
+                lengths: [0; NAMES],
+            },
+        };
+        if !fixed {
+            names.heads.put_names(self);
+        }
+        names
+    }
 }
 
-// Whether the name from a to e is void.
-pub fn is_void(profile: &[u8; 392], heads: &[u8; 305], page: &[u8], a: usize, e: usize) -> bool
-    requires { (a ≤ e) × (e ≤ length page.now) × Heads profile.now heads.now }
-    ensures { result ≡ void_of profile.now (part page.now a e) }
+// ---- where to look for a void name
+
+// A name's slot, by its first byte, its last and its length.
+fn slot(first: u8, last: u8, n: usize) -> usize
+    ensures { (result ≡ slot_by first last n) × (result < SLOTS) }
 {
-    if heads[FIXED] == 1 {
-        return constants::is_void(&page[a..e]);
+    (9 * usize::from(first) + usize::from(last) + 5 * (n % SLOTS)) % SLOTS
+}
+
+// Names by their slots: for each slot the last name that has it; for each name the one before it of its slot, and its length. A slot
+// and a link hold the number of a name plus 1, or 0: as `Option<u8>` there would be twice as much to clear.
+#[derive(Drop)]
+struct Heads {
+    first: [u8; SLOTS],
+    links: [u8; NAMES],
+    lengths: [u8; NAMES],
+}
+
+impl Heads {
+    // Puts name i, if there is one, before the others of its slot.
+    fn put_name(&mut self, profile: &Profile<'_>, i: u8)
+        requires { (i < NAMES) × Filled profile.now.bytes.now self.old i }
+        ensures { Filled profile.now.bytes.now self.new (i + 1) }
+    {
+        let k = usize::from(i);
+        let n = profile.name_len(k);
+        self.lengths[k] = n as u8;
+        if n == 0 {
+            return;
+        }
+        let a = FIRST + PLACE * k;
+        let s = slot(profile.bytes[a], profile.bytes[a + n - 1], n);
+        let next = self.first[s];
+        self.links[k] = next;
+        self.first[s] = i + 1;
     }
-    is_listed(profile, heads, page, a, e)
+
+    // Puts all names.
+    fn put_names(&mut self, profile: &Profile<'_>)
+        requires { Filled profile.now.bytes.now self.old 0 }
+        ensures { Filled profile.now.bytes.now self.new NAMES }
+    {
+        for i in 0..NAMES as u8 {
+            self.put_name(profile, i);
+        }
+    }
+}
+
+// A profile's void names, to be looked for. tl's are fixed, and their heads stay zero. A flag says so: in an `Option` they were copied.
+#[derive(Drop)]
+pub struct VoidNames<'a> {
+    pub profile: Profile<'a>,
+    fixed: bool,
+    heads: Heads,
+    ghost prepared: { ∥ Prepared profile.bytes.now fixed heads ∥₁ },
+}
+
+impl<'a> VoidNames<'a> {
+    // Whether the name from a to e is void: it is compared with the names of its slot. The loop counts nothing: it follows their links.
+    fn is_listed(&self, page: &[u8], a: usize, e: usize) -> bool
+        requires { (a ≤ e) × (e ≤ length page.now) × (self.now.fixed ≡ false) }
+        ensures { result ≡ void_of self.now.profile.bytes.now (part page.now a e) }
+    {
+        if a == e {
+            return false;
+        }
+        let s = slot(page[a], page[e - 1], e - a);
+        let mut i = usize::from(self.heads.first[s]);
+        while 0 < i {
+            let m = usize::from(self.heads.lengths[i - 1]);
+            if self.profile.is_name(i - 1, m, page, a, e) {
+                return true;
+            }
+            i = usize::from(self.heads.links[i - 1]);
+        }
+        false
+    }
+
+    // Whether the name from a to e is void.
+    pub fn is_void(&self, page: &[u8], a: usize, e: usize) -> bool
+        requires { (a ≤ e) × (e ≤ length page.now) }
+        ensures { result ≡ void_of self.now.profile.bytes.now (part page.now a e) }
+    {
+        if self.fixed {
+            return constants::is_void(&page[a..e]);
+        }
+        self.is_listed(page, a, e)
+    }
 }

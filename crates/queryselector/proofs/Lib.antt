@@ -2,4 +2,3 @@ pub mod Steps
 pub mod Written
 pub mod Returns
 pub mod Public
-mod Streams

@@ -1,8 +1,9 @@
 -- What the functions that read a chain ask for and promise.
-use Rattle.std.specs.Prelude.{ℕ, ◌+◌, ◌-◌, ◌*◌, ◌≤◌, ◌≡◌, List, ◌++◌, ltb, length, drop, Option, Some, None, Result}
+use Rattle.std.specs.Prelude.{ℕ, ◌+◌, ◌-◌, ◌*◌, ◌≤◌, ◌≡◌, List, ◌++◌, ltb, length, drop, Option, Some, None, Result, Ok, Err}
 use Rattle.rules.specs.Bytes.{is}
 use Rattle.rules.specs.Scan.{pick}
-use Rattle.rules.specs.Chain.{join, written}
+use Rattle.rules.specs.Chain.{join, written, read_selector}
+use Rattle.rules.specs.Refusals.{selector_too_long}
 use Rattle.rules.specs.Answers.{selector_answer, selector_buffer}
 use Rattle.rules.specs.declared.Joiner.TheVariants.{And, Or, Descendant, Parent}
 use Rattle.rules.specs.declared.Piece.{Piece}
@@ -10,6 +11,7 @@ use Rattle.rules.specs.declared.Join.{Join}
 use Rattle.piece.specs.Words.{piece_words}
 use Rattle.selector.specs.Within.{Within}
 use Rattle.rules.specs.declared.Refusal.{Refusal}
+use Rattle.rules.specs.declared.Refusal.TheVariants.{SelectorTooLong, SelectorNotRead}
 
 -- `join_at` by the byte at m
 abbrev pub join_by : ℕ → ℕ → ℕ → Join
@@ -34,6 +36,14 @@ written_in out (Some ps) = written ps ++ drop (length (written ps)) out
 pub record Chained (chain : Option (List Piece)) (out out₁ : List ℕ) (r : Option ℕ) : Type 0 where
   pub answer : r ≡ count_of chain
   pub words : out₁ ≡ written_in out chain
+
+-- refusals 5 and 6, or how many pieces the selector has
+abbrev pub read_count : Option (List Piece) → Result ℕ Refusal
+read_count None = Err SelectorNotRead
+read_count (Some ps) = Ok (length ps)
+
+abbrev pub read_answer : List ℕ → Result ℕ Refusal
+read_answer s = pick (selector_too_long s) (Err SelectorTooLong) (read_count (read_selector s))
 
 -- the public call's answer, and the lent words at entry and at exit
 pub record Answered (s out out₁ : List ℕ) (r : Result ℕ Refusal) : Type 0 where

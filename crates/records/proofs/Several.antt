@@ -15,10 +15,6 @@ use Rattle.records.specs.Records.{number_before, numbers_at}
 abbrev pub joined : List ℕ → Option (List ℕ × ℕ) → Option (List ℕ × ℕ)
 joined ns x = option_map (λ y. (ns ++ y.0, y.1)) x
 
-joined_none : (x : Option (List ℕ × ℕ)) → x ≡ joined [] x
-joined_none None = refl
-joined_none (Some x) = refl
-
 joined_joined : (ns ms : List ℕ) (x : Option (List ℕ × ℕ)) → joined ns (joined ms x) ≡ joined (ns ++ ms) x
 joined_joined ns ms None = refl
 joined_joined ns ms (Some x) = ap (λ (l : List ℕ). Some (l, x.1)) (sym (append_assoc ns ms x.0))
@@ -27,9 +23,6 @@ module _ {T : Type 0} (value : T → ℕ) (s : List ℕ) (at : ℕ) where
   -- of k numbers the first i are read
   abbrev pub Stored : ℕ → List T → ℕ → ℕ → Type 0
   Stored k ns place i = numbers_at k s at ≡ joined (map value (take i ns)) (numbers_at (k - i) s place)
-
-  pub nothing : (k : ℕ) (ns : List T) → Stored k ns at 0
-  nothing k ns = let all : k - 0 ≡ k = omega arith in rw all (joined_none (numbers_at k s at))
 
   pub one_number : (k : ℕ) (ns : List T) (place i n next : ℕ) (x : T) → i < k → i < length ns → value x ≡ n
       → Some (n, next) ≡ number_before 32 s place → Stored k ns place i → Stored k (set ns i x) next (i + 1)

@@ -3,7 +3,7 @@
 
 #![tactic(auto)]
 
-ghost use Rattle.std.specs.Prelude.{◌≡◌, ℕ, ◌∷◌, [], ◌++◌, length, map, decimal, flat_map, IfOk};
+ghost use Rattle.std.specs.Prelude.{◌≡◌, ℕ, ◌∷◌, [], ◌++◌, length, map, flat_map, IfOk};
 ghost use Rattle.std.specs.Option.{option_map};
 ghost use Rattle.lines.specs.Lines.{field, line_feed};
 ghost use Rattle.lines.specs.Writer.{Puts};
@@ -30,7 +30,8 @@ pub struct Record {
     pub start: usize,
 }
 
-// An unsigned integer that holds each number of a record.
+// An unsigned integer that holds each number of a record. The trait stands here because `usize` is no `From<u32>`, and `TryFrom` would
+// add a failure that no number of a record meets.
 pub trait Number: Copy {
     ghost value: { Self → ℕ };
 
@@ -159,25 +160,13 @@ impl TryFrom<Head> for Question {
 
 // ---- the line of an answer: a word, then each number after a space, then a line feed
 
-// A number and some values.
-pub fn put_line<I: Integer>(line: &mut Writer, word: &[u8], number: u32, values: &[I])
-    ensures { let numbers = field (decimal number) ++ flat_map (λ n. field (I.text n)) values.now in
+// Some numbers, as a refusal's and a count, and what a buffer holds.
+pub fn put_line<I: Integer, J: Integer>(line: &mut Writer, word: &[u8], front: &[I], values: &[J])
+    ensures { let numbers = flat_map (λ n. field (I.text n)) front.now ++ flat_map (λ n. field (J.text n)) values.now in
         Puts line.old (word.now ++ (numbers ++ line_feed)) line.new }
 {
     line.put(word);
-    line.put_field(number);
-    line.put_fields(values);
-    line.put_byte(b'\n');
-}
-
-// A refusal's number, a count, and what a buffer holds.
-pub fn put_list<I: Integer>(line: &mut Writer, word: &[u8], number: u32, count: usize, values: &[I])
-    ensures { let numbers = field (decimal number) ++ (field (decimal count) ++ flat_map (λ n. field (I.text n)) values.now) in
-        Puts line.old (word.now ++ (numbers ++ line_feed)) line.new }
-{
-    line.put(word);
-    line.put_field(number);
-    line.put_field(count);
+    line.put_fields(front);
     line.put_fields(values);
     line.put_byte(b'\n');
 }

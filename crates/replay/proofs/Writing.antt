@@ -1,5 +1,5 @@
 -- The lines of calls that write buffers, and a text so many times.
-use mathlib.Core.Path.{◌≡◌, refl, ap}
+use mathlib.Core.Path.{◌≡◌, refl, sym, ap, subst}
 use mathlib.Core.List.{List, [], ◌∷◌, ◌++◌}
 use Prim.Native.Nat.{ℕ, zero, suc, ◌+◌}
 use native.Mathlib.Numerals.{add-one}
@@ -18,20 +18,30 @@ use Rattle.replay.specs.Lending.{repeated}
 use Rattle.replay.specs.Printed.{Prints, PrintsBoth}
 use Rattle.rules.specs.declared.Refusal.{Refusal}
 
-pub prints : {u v : Writer} {word : List ℕ} {answer : Result ℕ Refusal} {buffer : List ℕ} {n k : ℕ} {left : List ℕ}
-    → Exports answer buffer n k left → Puts u (word ++ ((field (decimal n) ++ (field (decimal k) ++ fields left)) ++ line_feed)) v
-    → Prints u word answer buffer v left
+-- a line's numbers in two lists are one
+joined : {u v : Writer} (word ns ms : List ℕ) → Puts u (word ++ ((fields ns ++ fields ms) ++ line_feed)) v → Puts u (line word (ns ++ ms)) v
 unfolding line
-prints e w = record { printed = rw (← e.is, ← e.left) w; kept = e.left }
+joined {u} {v} word ns ms w =
+    subst (λ (l : List ℕ). Puts u (word ++ (l ++ line_feed)) v) (sym (flat_map-append (λ m. field (decimal m)) ns ms)) w
+
+pub prints : {u v : Writer} {word : List ℕ} {answer : Result ℕ Refusal} {buffer : List ℕ} {n k : ℕ} {left : List ℕ}
+    → Exports answer buffer n k left → Puts u (word ++ ((fields (n ∷ k ∷ []) ++ fields left) ++ line_feed)) v
+    → Prints u word answer buffer v left
+prints {word = word} {n = n} {k = k} {left = left} e w =
+    record { printed = rw (← e.is, ← e.left) (joined word (n ∷ k ∷ []) left w); kept = e.left }
 
 pub prints_both : {u v : Writer} {word : List ℕ} {answer : Result ℕ Refusal} {places texts : List ℕ} {n k : ℕ} {ends left : List ℕ}
     → ExportsBoth answer places texts n k ends left
-    → Puts u (word ++ ((field (decimal n) ++ (field (decimal k) ++ (fields ends ++ fields left))) ++ line_feed)) v
+    → Puts u (word ++ ((fields (n ∷ k ∷ []) ++ (fields ends ++ fields left)) ++ line_feed)) v
     → PrintsBoth u word answer places texts v ends left
-unfolding line
-prints_both {ends = ends} {left = left} e w =
-    let p = rw (← flat_map-append (λ m. field (decimal m)) ends left) at w in
-    record { printed = rw (← e.is, ← e.ends_left, ← e.out_left) p; ends_kept = e.ends_left; kept = e.out_left }
+prints_both {u} {v} {word} {n = n} {k = k} {ends = ends} {left = left} e w =
+    let both = sym (flat_map-append (λ m. field (decimal m)) ends left) in
+    let p = subst (λ (l : List ℕ). Puts u (word ++ ((fields (n ∷ k ∷ []) ++ l) ++ line_feed)) v) both w in
+    record {
+      printed = rw (← e.is, ← e.ends_left, ← e.out_left) (joined word (n ∷ k ∷ []) (ends ++ left) p);
+      ends_kept = e.ends_left;
+      kept = e.out_left;
+    }
 
 -- ---- a text so many times
 

@@ -1,6 +1,6 @@
 // Asks the library's calls a list of recorded questions: reads them on standard input, and writes a line for each answer.
 // A record is a line of five numbers, of which the first says what is asked and the last how many bytes follow; then these
-// bytes, and a line feed. W and B are how many entries are lent, each set to 9 before.
+// bytes, and a line feed. W, B and E are how many entries are lent, each set to 9 before.
 //   1 W T 0   a page, the bytes T times over, read into W words          2 h 0 0   the range of h
 //   3 h 0 0   an attribute of h, the bytes its name                      4 h B 0   the inner text of h
 //   5 m 0 0   the tag with an id, in the manner m                        6 m B 0   the tags with a class
@@ -17,7 +17,7 @@
 
 #![tactic(auto)]
 
-ghost use Rattle.std.specs.Prelude.{◌≡◌, [], ◌∷◌, ℕ, length, set, IfSome};
+ghost use Rattle.std.specs.Prelude.{◌≡◌, [], ◌∷◌, length, set, IfSome};
 ghost use Rattle.rules.specs.Ascii.{bytes};
 ghost use Rattle.rules.specs.Bytes.{is_white};
 ghost use Rattle.rules.specs.Names.{is_void};
@@ -32,11 +32,15 @@ ghost use Rattle.replay.specs.Printed.{Prints, PrintsBoth};
 
 use lines::Writer;
 use records::{Number, Question, Record};
+use rules::PAGE_LIMIT;
 use std::io;
 use std::io::Print;
 
 // The most handles of a list, and the most ends of names and of texts.
 const MOST: usize = 256;
+
+// A page that is one byte too long for the library.
+const PAGE_ROOM: usize = PAGE_LIMIT + 1;
 
 // How many bytes of the page and words of the table the questions are about.
 #[derive(Clone, Copy)]
@@ -45,10 +49,11 @@ struct Lent {
     words: usize,
 }
 
-// The place after a record that was answered, and what is lent from then on.
+// The place after a record that was answered, the place after the line of the answer, and what is lent from then on.
 #[derive(Clone, Copy)]
 struct Step {
     next: usize,
+    written: usize,
     lent: Lent,
 }
 
@@ -62,7 +67,8 @@ struct Buffers<'a> {
     out: &'a mut [u8],
 }
 
-// A page and its table, which the questions are about. Each method asks one, and writes the line of the answer.
+// A page and its table, which the questions are about. Each method asks one, and writes the line of the answer. They are alike but for the
+// call: in a closure its promise would be said once more.
 #[derive(Clone, Copy)]
 struct Document<'a> {
     page: &'a [u8],
@@ -77,7 +83,7 @@ impl Document<'_> {
     {
         let mut answer = [0; 3];
         let number = tl::tl_range(self.page, self.table, h as usize, &mut answer);
-        records::put_line(out, b"range", number, &answer);
+        records::put_line(out, b"range", &[number], &answer);
     }
 
     fn attribute(&self, h: u32, name: &[u8], out: &mut Writer)
@@ -86,7 +92,7 @@ impl Document<'_> {
     {
         let mut answer = [0; 3];
         let number = tl::tl_attribute(self.page, self.table, h as usize, name, &mut answer);
-        records::put_line(out, b"attribute", number, &answer);
+        records::put_line(out, b"attribute", &[number], &answer);
     }
 
     fn text(&self, h: u32, text: &mut [u8], out: &mut Writer)
@@ -97,7 +103,7 @@ impl Document<'_> {
     {
         let mut count = 0;
         let number = tl::tl_inner_text(self.page, self.table, h as usize, text, &mut count);
-        records::put_list(out, b"text", number, count, text);
+        records::put_line(out, b"text", &[number as usize, count], text);
     }
 
     fn id(&self, manner: u32, id: &[u8], out: &mut Writer)
@@ -106,7 +112,7 @@ impl Document<'_> {
     {
         let mut answer = [0; 2];
         let number = tl::tl_get_element_by_id(self.page, self.table, manner, id, &mut answer);
-        records::put_line(out, b"id", number, &answer);
+        records::put_line(out, b"id", &[number], &answer);
     }
 
     fn class(&self, manner: u32, class: &[u8], words: &mut [u32], out: &mut Writer)
@@ -121,7 +127,7 @@ impl Document<'_> {
         let number = tl::tl_get_elements_by_class_name(
             self.page, self.table, manner, class, words, &mut count,
         );
-        records::put_list(out, b"class", number, count, words);
+        records::put_line(out, b"class", &[number as usize, count], words);
     }
 
     fn query(&self, s: &[u8], words: &mut [u32], out: &mut Writer)
@@ -133,7 +139,7 @@ impl Document<'_> {
     {
         let mut count = 0;
         let number = tl::tl_query_selector(self.page, self.table, s, words, &mut count);
-        records::put_list(out, b"query", number, count, words);
+        records::put_line(out, b"query", &[number as usize, count], words);
     }
 
     fn below(&self, h: u32, s: &[u8], words: &mut [u32], out: &mut Writer)
@@ -147,7 +153,7 @@ impl Document<'_> {
         let number = tl::tl_query_selector_below(
             self.page, self.table, h as usize, s, words, &mut count,
         );
-        records::put_list(out, b"below", number, count, words);
+        records::put_line(out, b"below", &[number as usize, count], words);
     }
 
     // ---- the questions about a list of handles
@@ -162,7 +168,7 @@ impl Document<'_> {
     {
         let mut count = 0;
         let number = tl::tl_attributes(self.page, self.table, handles, name, words, &mut count);
-        records::put_list(out, b"attributes", number, count, words);
+        records::put_line(out, b"attributes", &[number as usize, count], words);
     }
 
     fn names(
@@ -184,7 +190,7 @@ impl Document<'_> {
         let number = tl::tl_attributes_for_names(
             self.page, self.table, handles, names, ends, words, &mut count,
         );
-        records::put_list(out, b"names", number, count, words);
+        records::put_line(out, b"names", &[number as usize, count], words);
     }
 
     fn texts(&self, handles: &[u32], ends: &mut [usize], text: &mut [u8], out: &mut Writer)
@@ -198,9 +204,9 @@ impl Document<'_> {
     {
         let mut count = 0;
         let number = tl::tl_inner_texts(self.page, self.table, handles, ends, text, &mut count);
+        // This line alone has two lists after its numbers.
         out.put(b"texts");
-        out.put_field(number);
-        out.put_field(count);
+        out.put_fields(&[number as usize, count]);
         out.put_fields(ends);
         out.put_fields(text);
         out.put_byte(b'\n');
@@ -216,7 +222,7 @@ fn parse(page: &[u8], table: &mut [u32], out: &mut Writer)
 {
     let mut count = 0;
     let number = tl::tl_parse(page, table, &mut count);
-    records::put_list(out, b"parse", number, count, table);
+    records::put_line(out, b"parse", &[number as usize, count], table);
 }
 
 fn selector(s: &[u8], words: &mut [u32], out: &mut Writer)
@@ -226,7 +232,7 @@ fn selector(s: &[u8], words: &mut [u32], out: &mut Writer)
 {
     let mut count = 0;
     let number = tl::tl_parse_query_selector(s, words, &mut count);
-    records::put_list(out, b"selector", number, count, words);
+    records::put_line(out, b"selector", &[number as usize, count], words);
 }
 
 // Damages the table: sets a word of it, if it has that many.
@@ -239,7 +245,7 @@ fn set_word(table: &mut [u32], i: u32, v: u32, out: &mut Writer)
     if place < table.len() {
         table[place] = v;
     }
-    records::put_line(out, b"word", i, &[v]);
+    records::put_line(out, b"word", &[i], &[v]);
 }
 
 // ---- a record's page, and its buffers: nines in as much of them as it asks for
@@ -275,71 +281,37 @@ fn lend(question: Question, body: &[u8], page: &mut [u8], room: usize, before: L
     Some(Lent { bytes, words })
 }
 
-// The numbers with which the bytes begin, as many as there is room for, and the bytes after them.
-fn leading<'a, T: Number>(body: &'a [u8], numbers: &mut [T]) -> Option<&'a [u8]> {
+// How many handles the bytes of a question begin with.
+fn handle_count(question: Question) -> u32 {
+    match question {
+        Question::Attributes { handles, .. }
+        | Question::Texts { handles, .. }
+        | Question::Names { handles, .. } => handles,
+        _ => 0,
+    }
+}
+
+// So many numbers, with which the bytes begin, and the bytes after them.
+fn leading<'a, 'b, T: Number>(
+    body: &'a [u8],
+    buffer: &'b mut [T],
+    count: u32,
+) -> Option<(&'b [T], &'a [u8])> {
+    let numbers = buffer.get_mut(..count as usize)?;
     let at = records::numbers_at(body, 0, numbers)?;
-    body.get(at..)
+    Some((numbers, body.get(at..)?))
 }
 
 // ---- the answer to a record, if it has one
 
-fn answer_texts(
-    document: &Document,
-    handles: u32,
-    ends: u32,
-    body: &[u8],
-    text: &mut [u8],
-    out: &mut Writer,
-) -> Option<()> {
-    let mut list = [0; MOST];
-    let mut places = [9; MOST];
-    let handles = list.get_mut(..handles as usize)?;
-    let ends = places.get_mut(..ends as usize)?;
-    leading(body, handles)?;
-    document.texts(handles, ends, text, out);
-    Some(())
-}
-
-fn answer_attributes(
-    document: &Document,
-    handles: u32,
-    body: &[u8],
-    words: &mut [u32],
-    out: &mut Writer,
-) -> Option<()> {
-    let mut list = [0; MOST];
-    let handles = list.get_mut(..handles as usize)?;
-    let name = leading(body, handles)?;
-    document.attributes(handles, name, words, out);
-    Some(())
-}
-
-fn answer_names(
-    document: &Document,
-    handles: u32,
-    names: u32,
-    body: &[u8],
-    words: &mut [u32],
-    out: &mut Writer,
-) -> Option<()> {
-    let mut list = [0; MOST];
-    let mut places = [0; MOST];
-    let handles = list.get_mut(..handles as usize)?;
-    let ends = places.get_mut(..names as usize)?;
-    let rest = leading(body, handles)?;
-    let names = leading(rest, ends)?;
-    document.names(handles, names, ends, words, out);
-    Some(())
-}
-
-// Nines in as many entries of the buffer as are asked for.
+// Nines in as many entries of the buffer as are asked for. With `fill` a clause would have to say that no copy of a nine can fail.
 fn nines<T: Copy + From<u8>>(buffer: &mut [T], room: u32) -> Option<&mut [T]> {
     let part = buffer.get_mut(..room as usize)?;
     part.fill_with(|| T::from(9));
     Some(part)
 }
 
-// The line of the answer to a question.
+// The line of the answer to a question. The buffers come one by one, cut to what is lent.
 fn answer(
     question: Question,
     body: &[u8],
@@ -353,11 +325,10 @@ fn answer(
         page,
         table: &*table,
     };
+    let (mut list, mut places) = ([0; MOST], [0; MOST]);
+    let (handles, body) = leading(body, &mut list, handle_count(question))?;
     match question {
-        Question::Parse { .. } => {
-            table.fill(9);
-            parse(page, table, out);
-        }
+        Question::Parse { words, .. } => parse(page, nines(table, words)?, out),
         Question::SetWord { place, value } => set_word(table, place, value, out),
         Question::Range { handle } => document.range(handle, out),
         Question::Attribute { handle } => document.attribute(handle, body, out),
@@ -367,33 +338,24 @@ fn answer(
         Question::Selector { room } => selector(body, nines(words, room)?, out),
         Question::Query { room } => document.query(body, nines(words, room)?, out),
         Question::Below { handle, room } => document.below(handle, body, nines(words, room)?, out),
-        Question::Attributes { handles, room } => {
-            answer_attributes(&document, handles, body, nines(words, room)?, out)?
+        Question::Attributes { room, .. } => {
+            document.attributes(handles, body, nines(words, room)?, out)
         }
-        Question::Texts {
-            handles,
-            room,
-            ends,
-        } => { answer_texts(&document, handles, ends, body, nines(text, room)?, out)? }
-        Question::Names {
-            handles,
-            room,
-            names,
-        } => { answer_names(&document, handles, names, body, nines(words, room)?, out)? }
+        Question::Texts { room, ends, .. } => {
+            document.texts(handles, nines(&mut places, ends)?, nines(text, room)?, out)
+        }
+        Question::Names { room, names, .. } => {
+            let (ends, names) = leading(body, &mut places, names)?;
+            document.names(handles, names, ends, nines(words, room)?, out);
+        }
     }
     Some(())
 }
 
 // ---- the program
 
-// Answers the record at the place, and writes the line of the answer.
-fn answer_at(
-    rt: &HostRuntime,
-    input: &[u8],
-    at: usize,
-    before: Lent,
-    buffers: &mut Buffers,
-) -> Option<Step>
+// Answers the record at the place, if it is one that the buffers have room for: the line of the answer goes into `out`.
+fn answer_at(input: &[u8], at: usize, before: Lent, buffers: &mut Buffers) -> Option<Step>
     requires { IsWithin before (length buffers.old.page.now) (length buffers.old.table.now) }
     ensures { IfSome result (λ step. IsAhead step at (length input.now) (length buffers.new.page.now) (length buffers.new.table.now)) }
 {
@@ -415,27 +377,32 @@ fn answer_at(
         &mut *buffers.words,
         &mut out,
     )?;
-    let written = out.at;
-    rt.write_all(buffers.out.get(..written)?).ok()?;
     Some(Step {
         next: end + 1,
+        written: out.at,
         lent,
     })
 }
 
-// Answers one record after the other, until the input ends, and counts them; none if something stands there that is not a record. The
-// place is no counter: a step is as long as its record.
-fn replay(rt: &HostRuntime, input: &[u8], buffers: &mut Buffers) -> Option<usize> {
+// Answers one record after the other, until the input ends, writes the lines of the answers and counts them; none if something stands
+// there that is not a record, or whose line finds no room. The place is no counter: a step is as long as its record.
+fn replay(rt: &HostRuntime, input: &[u8], buffers: &mut Buffers) -> io::Result<Option<usize>> {
     let mut at = 0;
     let mut count = 0;
     let mut lent = Lent { bytes: 0, words: 0 };
     while at < input.len() {
-        let step = answer_at(rt, input, at, lent, buffers)?;
+        let Some(step) = answer_at(input, at, lent, buffers) else {
+            return Ok(None);
+        };
+        let Some(line) = buffers.out.get(..step.written) else {
+            return Ok(None);
+        };
+        rt.write_all(line)?;
         at = step.next;
         lent = step.lent;
         count += 1;
     }
-    Some(count)
+    Ok(Some(count))
 }
 
 // A buffer of zeros. Its contract gives only the length: the proof of `main` never looks at so many zeros.
@@ -445,14 +412,14 @@ fn zeros<const N: usize>() -> [u8; N]
     [0; N]
 }
 
-// The input; a page, of which 65,537 bytes are too long for the library; its table, which has a header of 8 words, 1,819 rows of 9,
-// and 5 words after them; the texts of a page; and the longest line, that of texts: 5 bytes for its word, 2 for a refusal's number,
-// 4 for the count, 6 for each of 256 places, 4 for each byte, and a line feed.
+// The input; a page; its table, which has a header of 8 words, 1,819 rows of 9, and 5 words after them; the texts of a page; and the
+// longest line, that of texts: 5 bytes for its word, 2 for a refusal's number, 4 for the count, 6 for each of 256 places, 4 for each
+// byte, and a line feed.
 fn main(rt: HostRuntime) -> io::Result<()> {
     let mut input = zeros::<1048576>();
-    let mut page = zeros::<65537>();
+    let mut page = zeros::<PAGE_ROOM>();
     let mut table = [0u32; 16384];
-    let mut text = zeros::<65537>();
+    let mut text = zeros::<PAGE_ROOM>();
     let mut words = [0u32; 4096];
     let mut out = zeros::<263696>();
     let n = input::read_full(&mut rt.stdin(), &mut input)?;
@@ -463,7 +430,7 @@ fn main(rt: HostRuntime) -> io::Result<()> {
         words: &mut words,
         out: &mut out,
     };
-    match replay(&rt, &input[..n], &mut buffers) {
+    match replay(&rt, &input[..n], &mut buffers)? {
         Some(count) => println!(rt; "records {count}"),
         None => rt.write_all(b"bad record\n"),
     }

@@ -15,7 +15,7 @@ use Rattle.rules.specs.Sound.{count_of, sound, tagged}
 use Rattle.rules.specs.Refusals.{Sound, page_too_long, table_not_sound, not_a_tag, asking, asking_tag}
 use Rattle.rules.specs.declared.Refusal.{Refusal}
 use Rattle.rules.specs.declared.Refusal.TheVariants.{PageTooLong, TableNotSound, NotATag}
-use Rattle.rules.proofs.Sound.{and_left, and_right}
+use Rattle.std.proofs.lemmas.Bool.{and_parts}
 
 abbrev fine : Result ⊤ Refusal
 fine = Ok tt
@@ -25,14 +25,6 @@ after_fine : (t : Bool) (x : Refusal) (c : Result ⊤ Refusal) → pick t (Err x
 after_fine true x c e = let z : ◌≡◌ {A = ℕ} 0 1 = cc in absurd (omega arith)
 after_fine false x c e = (refl, e)
 
-after_refused : {A : Type 0} (t : Bool) (x y : Refusal) (c : Result ⊤ Refusal) (b : Result A Refusal) → pick t (Err x) c ≡ Err y
-    → (c ≡ Err y → b ≡ Err y) → pick t (Err x) b ≡ Err y
-after_refused true x y c b e f = let z : x ≡ y = cc in rw z
-after_refused false x y c b e f = f e
-
-never : {A : Type 0} {y : Refusal} {b c : A} → fine ≡ Err y → b ≡ c
-never e = let z : ◌≡◌ {A = ℕ} 0 1 = cc in absurd (omega arith)
-
 module _ (p ws : List ℕ) where
   -- c is checked after the two, and b answered after them
   fine_then : (c : Result ⊤ Refusal) → asking p ws c ≡ fine → Sound p ws × (c ≡ fine)
@@ -41,33 +33,14 @@ module _ (p ws : List ℕ) where
       let b = after_fine (table_not_sound p ws) TableNotSound c a.1 in
       (record { short = a.0; table = not-false (sound (length p) ws) b.0 }, b.1)
 
-  refused_then : {A : Type 0} (c : Result ⊤ Refusal) (b : Result A Refusal) (y : Refusal) → asking p ws c ≡ Err y → (c ≡ Err y → b ≡ Err y)
-      → asking p ws b ≡ Err y
-  refused_then c b y e f =
-      after_refused (page_too_long p) PageTooLong y (pick (table_not_sound p ws) (Err TableNotSound) c)
-      (pick (table_not_sound p ws) (Err TableNotSound) b) e
-      (λ g. after_refused (table_not_sound p ws) TableNotSound y c b g f)
-
   pub was_fine : asking p ws fine ≡ fine → Sound p ws
   was_fine e = (fine_then fine e).0
-
-  pub was_refused : {A : Type 0} (b : Result A Refusal) (y : Refusal) → asking p ws fine ≡ Err y → asking p ws b ≡ Err y
-  was_refused b y e = refused_then fine b y e never
-
-  pub answered : {A : Type 0} (b : Result A Refusal) → Sound p ws → asking p ws b ≡ b
-  answered b s = rw (s.short, s.table)
 
   -- the same with a test of refusal 4
   module _ (t : Bool) where
     pub was_fine_also : asking p ws (pick t (Err NotATag) fine) ≡ fine → Sound p ws × (t ≡ false)
     was_fine_also e =
         let a = fine_then (pick t (Err NotATag) fine) e in (a.0, (after_fine t NotATag fine a.1).0)
-
-    pub was_refused_also : {A : Type 0} (b : Result A Refusal) (y : Refusal) → asking p ws (pick t (Err NotATag) fine) ≡ Err y
-        → asking p ws (pick t (Err NotATag) b) ≡ Err y
-    was_refused_also b y e =
-        refused_then (pick t (Err NotATag) fine) (pick t (Err NotATag) b) y e
-        (λ g. after_refused t NotATag y fine b g never)
 
     pub answered_also : {A : Type 0} (b : Result A Refusal) → Sound p ws → t ≡ false → asking p ws (pick t (Err NotATag) b) ≡ b
     answered_also b s f = rw (s.short, s.table, f)
@@ -86,15 +59,12 @@ module _ (p ws : List ℕ) where
         record {
           sound_table = s;
           tag_test = f;
-          below = ltb-true h (count_of ws) (and_left (ltb h (count_of ws)) (tagged (node_at ws h)) t);
-          tag = eqb-true (node_at ws h).kind 1 (and_right (ltb h (count_of ws)) (tagged (node_at ws h)) t);
+          below = ltb-true h (count_of ws) (and_parts (ltb h (count_of ws)) (tagged (node_at ws h)) t).0;
+          tag = eqb-true (node_at ws h).kind 1 (and_parts (ltb h (count_of ws)) (tagged (node_at ws h)) t).1;
         }
 
     pub was_fine_tag : asking_tag p ws h fine ≡ fine → SoundTag
     was_fine_tag e = let a = was_fine_also (not_a_tag ws h) e in sound_tag a.0 a.1
-
-    pub was_refused_tag : {A : Type 0} (b : Result A Refusal) (y : Refusal) → asking_tag p ws h fine ≡ Err y → asking_tag p ws h b ≡ Err y
-    was_refused_tag = was_refused_also (not_a_tag ws h)
 
     pub answered_tag : {A : Type 0} (b : Result A Refusal) → SoundTag → asking_tag p ws h b ≡ b
     answered_tag b s = answered_also (not_a_tag ws h) b s.sound_table s.tag_test

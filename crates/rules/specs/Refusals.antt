@@ -1,5 +1,6 @@
 -- The refusals: their numbers and conditions, and what an answer says in numbers.
-use Rattle.std.specs.Prelude.{ℕ, suc, ◌-◌, ◌≡◌, Bool, true, false, not, List, [], ◌∷◌, ◌++◌, eqb, ltb, length, drop, replicate, Option, Some, None, Result, Ok, Err}
+use Rattle.std.specs.Prelude.{ℕ, suc, ◌-◌, ◌≡◌, Bool, true, false, not, List, [], ◌∷◌, ◌++◌, eqb, ltb, length, drop, replicate}
+use Rattle.std.specs.Prelude.{Option, Some, None, Result, Ok, Err}
 use Rattle.rules.specs.Scan.{pick, part}
 use Rattle.rules.specs.Sound.{sound, is_tag}
 use Rattle.rules.specs.declared.Refusal.{Refusal}
@@ -71,9 +72,9 @@ pub record Counts (found b : List ℕ) (r : Result ℕ Refusal) (out : List ℕ)
   pub left : out ≡ filled_by b found r
 
 -- a refusal leaves the lent buffer all zero
-pub record Refuses (b : List ℕ) (why : Refusal) (r : Result ℕ Refusal) (out : List ℕ) : Type 0 where
+pub record Refuses {A : Type 0} (zero : A) (b : List A) (why : Refusal) (r : Result ℕ Refusal) (out : List A) : Type 0 where
   pub is : r ≡ Err why
-  pub left : out ≡ replicate (length b) 0
+  pub left : out ≡ replicate (length b) zero
 
 -- ---- a manner's number: 0 is the scan, any other number the closed manner
 

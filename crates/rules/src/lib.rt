@@ -4,11 +4,33 @@
 
 // ---- pages
 
-// A row of the table: `name` and `stop` are a tag's name start and name end, `opened` the place after its opening `>`. How a tag
-// ended: 0 it was open at the end of the page, 1 a closing tag with its `>` closed it, 2 one that the page's end cut short did,
-// 3 it was never opened, since its name is void or it ended in `/>`. Of texts and comments it is 0.
-// The kind and how a tag ended are numbers and no enums: they are words of the table, which a caller of the C interface may have
-// filled with anything. So is the parent, 0 or its handle plus 1.
+// The longest page that is read, in bytes.
+pub const PAGE_LIMIT: usize = 65536;
+
+// The version of a page whose document type names html; else it is 0.
+pub const HTML5: u32 = 5;
+
+// What a node is, by word 0 of its row.
+#[derive(Clone, Copy)]
+pub enum Kind {
+    Tag = 1,
+    Text,
+    Comment,
+}
+
+// How a tag ended, by word 8 of its row: it was open at the end of the page; a closing tag with its `>` closed it; one that the page's
+// end cut short did; it was never opened, since its name is void or it ended in `/>`. Texts and comments have the first.
+#[derive(Clone, Copy)]
+pub enum Ended {
+    Open,
+    Closed,
+    CutShort,
+    NeverOpened,
+}
+
+// A row of the table: `name` and `stop` are a tag's name start and name end, `opened` the place after its opening `>`.
+// All are numbers, the kind and how a tag ended too: they are words of the table, which a caller of the C interface may have filled with
+// anything. So is the parent, 0 or its handle plus 1.
 #[derive(Clone, Copy)]
 pub struct Node {
     pub kind: u32,
@@ -22,7 +44,33 @@ pub struct Node {
     pub ended: u32,
 }
 
-// An attribute: its name from and to; its value from and to, if it is given one; the place after it.
+impl Node {
+    ghost use Rattle.std.specs.Prelude.{◌≡◌, eqb};
+    ghost use Rattle.rules.specs.Sound.{tagged};
+    ghost use Rattle.rules.specs.Table.{parent_handle};
+
+    pub fn is_tag(&self) -> bool
+        ensures { result ≡ tagged self.now }
+    {
+        self.kind == Kind::Tag as u32
+    }
+
+    pub fn is_text(&self) -> bool
+        ensures { result ≡ eqb self.now.kind 2 }
+    {
+        self.kind == Kind::Text as u32
+    }
+
+    // The handle of the parent, if it has one.
+    pub fn parent(&self) -> Option<usize>
+        ensures { result ≡ parent_handle self.now }
+    {
+        (self.parent as usize).checked_sub(1)
+    }
+}
+
+// An attribute: its name from and to; its value from and to, if it is given one; the place after it. Here, in an item and in what is held
+// two places are two numbers: as a span each would have one more name, in the rules and in the rows, which hold the places one by one.
 #[derive(Clone, Copy)]
 pub struct Attribute {
     pub name: usize,
@@ -81,6 +129,22 @@ pub enum Held {
     Absent,
     Bare,
     Value(usize, usize),
+}
+
+impl Held {
+    ghost use Rattle.std.specs.Prelude.{◌≡◌};
+    ghost use Rattle.rules.specs.Refusals.{held_numbers};
+
+    // Which of the three, and where a value starts and ends. A method, since `<[usize; 3]>::from` would not say what the numbers are.
+    pub fn numbers(self) -> [usize; 3]
+        ensures { result ≡ held_numbers self }
+    {
+        match self {
+            Held::Absent => [0, 0, 0],
+            Held::Bare => [1, 0, 0],
+            Held::Value(start, end) => [2, start, end],
+        }
+    }
 }
 
 // The two manners of a lookup: over all tags, or over those that a closing tag closed.

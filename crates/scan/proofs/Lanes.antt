@@ -13,7 +13,7 @@ use Rattle.std.proofs.Common.{get_or-take, get_or-drop}
 use Rattle.std.proofs.lemmas.Bool.{eqb-true}
 use Rattle.std.proofs.lemmas.List.{length-map}
 use Rattle.std.proofs.lemmas.Simd.{none_from_empty_mask, mask_l-mod, get_or-zip2, length-zip2, get_or-replicate}
-use Rattle.scan.specs.Pairs.{None, pair_at}
+use Rattle.scan.specs.Pairs.{Nowhere, pair_at}
 
 -- the 16 bytes from i on, each compared with q
 abbrev pub same16 : List ℕ → ℕ → ℕ → List ℕ
@@ -55,14 +55,14 @@ top_both true false = refl
 top_both false true = refl
 top_both false false = refl
 
-pub none_same : (s : List ℕ) (i q : ℕ) → i + 16 ≤ length s → Unset (same16 s i q) → None (λ x. eqb (get_or s x 0) q) i (i + 16)
+pub none_same : (s : List ℕ) (i q : ℕ) → i + 16 ≤ length s → Unset (same16 s i q) → Nowhere (λ x. eqb (get_or s x 0) q) i (i + 16)
 none_same s i q room z = λ x l h.
     let k : x - i < 16 = omega arith in
     let e : i + (x - i) ≡ x = omega arith in
     rw e at (sym (top_same _) ∙ ap (top 7) (sym (lane s i q room (x - i) k)) ∙ unset_at _ (size16 s i q room) z (x - i) k)
 
 pub none_pair : (s : List ℕ) (i d a b : ℕ) → i + d + 16 ≤ length s → Unset (zip2 bit_and (same16 s i a) (same16 s (i + d) b))
-    → None (pair_at s d a b) i (i + 16)
+    → Nowhere (pair_at s d a b) i (i + 16)
 none_pair s i d a b room z = λ x l h.
     let k : x - i < 16 = omega arith in
     let e : i + (x - i) ≡ x = omega arith in

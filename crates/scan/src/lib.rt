@@ -4,7 +4,7 @@
 
 #![tactic(auto)]
 
-ghost use Rattle.std.specs.Prelude.{◌≡◌, ℕ, List, false, ◌+◌, ◌<◌, ◌≤◌, min, length, get_or};
+ghost use Rattle.std.specs.Prelude.{◌≡◌, ℕ, List, false, ◌+◌, ◌<◌, ◌≤◌, length, get_or};
 ghost use Rattle.rules.specs.Bytes.{is_ident, is_closing, other, is};
 ghost use Rattle.rules.specs.Scan.{pick, skip, here, pass, part as part_of};
 ghost use Rattle.rules.specs.Places.{current_at, expect_at};
@@ -12,12 +12,13 @@ ghost use Rattle.rules.specs.Attributes.{in_value};
 ghost use Rattle.rules.specs.Words.{Within};
 ghost use Rattle.scan.specs.Marks.{white_in, Marked, Base};
 ghost use Rattle.scan.specs.Skips.{Skips};
-ghost use Rattle.scan.specs.Pairs.{None, pair_at};
+ghost use Rattle.scan.specs.Pairs.{Nowhere, pair_at};
 
 use std::marker::Model;
 use std::simd::prelude::*;
 
-// By byte value, 16 to a line: 1 an identifier byte, 2 white, 4 closing, and sums of these.
+// By byte value, 16 to a line: 1 an identifier byte, 2 white, 4 closing, and sums of these. Numbers and no names, since the tests below
+// take sums apart.
 const MARKS: [u8; 256] = *b"\
     \x00\x00\x00\x00\x00\x00\x00\x00\x00\x00\x02\x00\x00\x00\x00\x00\
     \x00\x00\x00\x00\x00\x00\x00\x00\x00\x00\x00\x00\x00\x00\x00\x00\
@@ -102,6 +103,8 @@ impl Marks {
         self.mark(b) < 2
     }
 
+    // Three searches that differ in their test, a line each.
+
     // simd::search_non_ident: the end of the identifier at the place.
     pub fn search_non_ident(&self, s: &[u8], at: usize) -> usize
         ensures { result ≡ skip is_ident s.now at }
@@ -127,7 +130,7 @@ impl Marks {
     pub fn closing_at(&self, s: &[u8], at: usize) -> bool
         ensures { result ≡ here is_closing s.now at }
     {
-        at < s.len() && self.is_closing(s[at])
+        s.get(at).is_some_and(|b| self.is_closing(*b))
     }
 }
 
@@ -156,7 +159,7 @@ fn any16(s: &[u8], i: usize, q: u8) -> bool
 pub fn find(s: &[u8], at: usize, q: u8) -> usize
     ensures { result ≡ skip (other q) s.now at }
 {
-    // From a place before `top`, 16 bytes are left. An index, as in may_pair.
+    // From a place before `top`, 16 bytes are left. An index, since `step_by` was slower where it was tried (`may_pair`).
     let top = s.len().saturating_sub(15);
     let mut i = at;
     while i < top && !any16(s, i, q) {
@@ -168,7 +171,7 @@ pub fn find(s: &[u8], at: usize, q: u8) -> usize
 // Whether a stands at one of the 16 places from i on, and b d bytes after it.
 fn pair16(s: &[u8], i: usize, d: usize, a: u8, b: u8) -> bool
     requires { i + d + 16 ≤ length s.now }
-    ensures { result ≡ false → None (pair_at s.now d a b) i (i + 16) }
+    ensures { result ≡ false → Nowhere (pair_at s.now d a b) i (i + 16) }
 {
     let first = u8x16::from_slice(&s[i..]).simd_eq(u8x16::splat(a));
     let last = u8x16::from_slice(&s[i + d..]).simd_eq(u8x16::splat(b));
@@ -180,7 +183,7 @@ fn pair16(s: &[u8], i: usize, d: usize, a: u8, b: u8) -> bool
 // With `(from..to).step_by(16)` for the loop it was tried, and was up to a fifth slower.
 fn may_pair(s: &[u8], from: usize, to: usize, d: usize, a: u8, b: u8) -> bool
     requires { (to + d ≤ length s.now) × (d + 16 ≤ length s.now) }
-    ensures { result ≡ false → None (pair_at s.now d a b) from to }
+    ensures { result ≡ false → Nowhere (pair_at s.now d a b) from to }
 {
     let top = s.len() - d - 16;
     let mut i = from;
@@ -228,24 +231,19 @@ pub fn advance(s: &[u8], at: usize) -> usize
 }
 
 // Stream::current_cpy: the byte at the place, or the end.
+#[tactic(auto, unfolding(rules::specs::Places::current_at))]
 pub fn current_cpy(s: &[u8], at: usize) -> Option<u8>
     ensures { result ≡ current_at s.now at }
 {
-    if at < s.len() {
-        return Some(s[at]);
-    }
-    None
+    s.get(at).copied()
 }
 
 // Stream::expect_and_skip: the place after q, if q stands at the place.
+#[tactic(auto, unfolding(rules::specs::Places::expect_at))]
 pub fn expect_and_skip(s: &[u8], at: usize, q: u8) -> Option<usize>
     ensures { result ≡ expect_at q s.now at }
 {
-    let next = advance(s, at);
-    if is_at(s, at, q) {
-        return Some(next);
-    }
-    None
+    is_at(s, at, q).then_some(advance(s, at))
 }
 
 // The bytes from a up to e. Places past the end count as the end, so that it can be asked for any places.

@@ -1,8 +1,7 @@
 -- The definitions of rules/specs/Selector, one law for each way out of a function: by what the calls before it answered (r ≡ ..), and
 -- which variants those answers were. `search` finds what a law asks for among what is known at a return.
 use Rattle.std.proofs.Common.{Option, Some, None}
-use mathlib.Core.Path.{◌≡◌, refl, sym, subst, ◌∙◌}
-use mathlib.Core.Logic.{◌⊎◌, inl, inr}
+use mathlib.Core.Path.{◌≡◌, refl, subst}
 use mathlib.Core.Bool.{Bool, true, false}
 use mathlib.Core.List.{List}
 use Prim.Native.Nat.{ℕ, suc, ◌+◌, ◌≤◌}
@@ -73,35 +72,22 @@ module _ (s : List ℕ) (i : ℕ) (r : Option ℕ) (e : r ≡ current_at s i) wh
   unfolding operand_at
   operand_bare b v x a t k y = rw ((was_byte s i r e b a).tests is_quote, t) (rw k at y)
 
--- ---- `read_operator`
+-- ---- `read_operator`: f makes a simple selector of the value
 
-module _ (s : List ℕ) (k : Span) (op i : ℕ) (r : Option ℕ) (e : r ≡ expect_at 61 s i) where
-  pub operator_other : r ≡ None → None ≡ operator_at s k op i
+module _ (s : List ℕ) (f : Span → Simple) (i : ℕ) (r : Option ℕ) (e : r ≡ expect_at 61 s i) where
+  pub operator_other : r ≡ None → None ≡ operator_at s f i
   operator_other a = rw (was_other 61 s i r e a)
 
-  module _ (n : ℕ) (o : Option (Span × ℕ)) (a : r ≡ Some n) (y : o ≡ operand_at s n) where
-    pub operator_none : o ≡ None → None ≡ operator_at s k op i
-    operator_none z = rw ((was_next 61 s i r e n a).there, ← next_is 61 s i n r e a, ← y, z)
-
-    pub operator_found : (v : Span) (m : ℕ) (x : Simple) → o ≡ Some (v, m) → x ≡ operated op k v → Some (x, m) ≡ operator_at s k op i
-    operator_found v m x z f = rw ((was_next 61 s i r e n a).there, ← next_is 61 s i n r e a, ← y, z, f)
+  pub operator_found : (n : ℕ) (x : Option (Simple × ℕ)) → r ≡ Some n → x ≡ with_value f (operand_at s n) → x ≡ operator_at s f i
+  operator_found n x a y = rw ((was_next 61 s i r e n a).there, ← next_is 61 s i n r e a) y
 
 -- ---- `parse_attribute`: the byte after the name k
 
--- the bytes of the arm that asks for an operator
-abbrev Operator : ℕ → Type 0
-Operator b = (b ≡ 36) ⊎ ((b ≡ 42) ⊎ ((b ≡ 94) ⊎ (b ≡ 126)))
-
-abbrev attribute_by : List ℕ → Span → ℕ → Option (Simple × ℕ)
+abbrev pub attribute_by : List ℕ → Span → ℕ → Option (Simple × ℕ)
 attribute_by s k b =
     pick (is 93 b) (Some (Attribute k, k.end + 1))
-    (pick (is 61 b) (with_value (AttributeValue k) (operand_at s (k.end + 1))) (pick (is_operator b) (operator_at s k b (k.end + 1)) None))
-
-operator_arm : (s : List ℕ) (k : Span) (b : ℕ) → Operator b → attribute_by s k b ≡ operator_at s k b (k.end + 1)
-operator_arm s k b (inl e) = rw e
-operator_arm s k b (inr (inl e)) = rw e
-operator_arm s k b (inr (inr (inl e))) = rw e
-operator_arm s k b (inr (inr (inr e))) = rw e
+    (pick (is 61 b) (with_value (AttributeValue k) (operand_at s (k.end + 1)))
+    (pick (is_operator b) (operator_at s (operated b k) (k.end + 1)) None))
 
 module _ (s : List ℕ) (i : ℕ) (k : Span) (r : Option ℕ) (n : k ≡ ident s i) (e : r ≡ current_at s k.end) where
   -- of k and its end, what `attribute_from` says of the identifier at i
@@ -121,24 +107,13 @@ module _ (s : List ℕ) (i : ℕ) (k : Span) (r : Option ℕ) (n : k ≡ ident s
         let R = was_byte s k.end r e b a in
         named x (rw (R.tests (is 93), R.tests (is 61), R.tests is_operator, R.byte) (rw (add-one k.end) at y))
 
-    pub attribute_bare : b ≡ 93 → Some (Attribute k, k.end + 1) ≡ attribute_from s (ident s i) (ident_end s i)
-    attribute_bare y = by _ (rw y)
+    pub attribute_at : (q : ℕ) (x : Option (Simple × ℕ)) → b ≡ q → x ≡ attribute_by s k q → x ≡ attribute_from s (ident s i) (ident_end s i)
+    attribute_at q x y z = by x (rw y z)
 
-    module _ (o : Option (Span × ℕ)) (y : b ≡ 61) (z : o ≡ operand_at s (k.end + 1)) where
-      pub attribute_none : o ≡ None → None ≡ attribute_from s (ident s i) (ident_end s i)
-      attribute_none w = by _ (rw (y, ← z, w))
-
-      pub attribute_found : (v : Span) (m : ℕ) → o ≡ Some (v, m) → Some (AttributeValue k v, m) ≡ attribute_from s (ident s i) (ident_end s i)
-      attribute_found v m w = by _ (rw (y, ← z, w))
-
-    pub attribute_operator : (x : Option (Simple × ℕ)) → Operator b → x ≡ operator_at s k b (k.end + 1) → x ≡ attribute_from s (ident s i) (ident_end s i)
-    attribute_operator x y z = by x (z ∙ sym (operator_arm s k b y))
-
-    pub attribute_other : (b ≡ 93 → ⊥) → (b ≡ 61 → ⊥) → (Operator b → ⊥) → None ≡ attribute_from s (ident s i) (ident_end s i)
-    attribute_other x y h =
-        by None
-        (rw (ne_eqb b 93 x, ne_eqb b 61 y, ne_eqb b 36 (λ e. h (inl e)), ne_eqb b 42 (λ e. h (inr (inl e))))
-        (rw (ne_eqb b 94 (λ e. h (inr (inr (inl e)))), ne_eqb b 126 (λ e. h (inr (inr (inr e)))))))
+    pub attribute_other : (b ≡ 93 → ⊥) → (b ≡ 61 → ⊥) → (b ≡ 126 → ⊥) → (b ≡ 94 → ⊥) → (b ≡ 36 → ⊥) → (b ≡ 42 → ⊥)
+        → None ≡ attribute_from s (ident s i) (ident_end s i)
+    attribute_other v w x y z u =
+        by None (rw (ne_eqb b 93 v, ne_eqb b 61 w, ne_eqb b 126 x, ne_eqb b 94 y, ne_eqb b 36 z, ne_eqb b 42 u))
 
 -- ---- `parse_simple`
 

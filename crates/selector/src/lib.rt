@@ -1,9 +1,12 @@
-// One simple selector (queryselector/parser): read at a place of a selector's bytes. `t` is the lent table of marks.
+// One simple selector (queryselector/parser): read at a place of a selector's bytes. `t` is the lent table of marks. As in the page reader
+// a slice and a place go as they are.
 
 #![tactic(auto)]
 
 ghost use Rattle.std.specs.Prelude.{◌≡◌};
-ghost use Rattle.rules.specs.Selector.{spaces_end, ident_end, ident, closed_at, quoted_at, operand_at, operated, attribute_from, simple_at};
+ghost use Rattle.rules.specs.Selector.{spaces_end, ident_end, ident, closed_at, quoted_at, with_value, operand_at, attribute_from, simple_at};
+ghost use Rattle.rules.specs.declared.Span.{Span};
+ghost use Rattle.rules.specs.declared.Simple.{Simple};
 ghost use Rattle.selector.specs.Within.{Within, operator_at};
 
 use rules::{Simple, Span};
@@ -59,29 +62,37 @@ fn read_operand(t: &Marks, s: &[u8], at: usize) -> Option<(Span, usize)>
     close(s, v, v.end as usize)
 }
 
-// The simple selector that one of `~ ^ $ *` before the `=` makes of a name and a value.
-fn operate(op: u8, name: Span, value: Span) -> Simple
-    ensures { result ≡ operated op name value }
+// A value at a place, and the simple selector that it makes with an attribute's name.
+fn read_value<F: Fn(Span, Span) -> Simple>(
+    t: &Marks,
+    s: &[u8],
+    name: Span,
+    at: usize,
+    simple: F,
+) -> Option<(Simple, usize)>
+    requires place { Within s.now at }
+    requires callable { F.IsAlwaysCallable simple }
+    ensures { (f : Span → Simple) → ((v : Span) (x : Simple) → F.post simple name v x → x ≡ f v)
+        → result ≡ with_value f (operand_at s.now at) }
 {
-    if op == b'~' {
-        Simple::AttributeValueWhitespacedContains(name, value)
-    } else if op == b'^' {
-        Simple::AttributeValueStartsWith(name, value)
-    } else if op == b'$' {
-        Simple::AttributeValueEndsWith(name, value)
-    } else {
-        Simple::AttributeValueSubstring(name, value)
-    }
+    let (value, next) = read_operand(t, s, at)?;
+    Some((simple(name, value), next))
 }
 
-// What follows one of `~ ^ $ *` after an attribute's name.
-fn read_operator(t: &Marks, s: &[u8], name: Span, op: u8, at: usize) -> Option<(Simple, usize)>
-    requires { Within s.now at }
-    ensures { result ≡ operator_at s.now name op at }
+// What follows one of `~ ^ $ *` after an attribute's name: `=` and a value.
+fn read_operator<F: Fn(Span, Span) -> Simple>(
+    t: &Marks,
+    s: &[u8],
+    name: Span,
+    at: usize,
+    simple: F,
+) -> Option<(Simple, usize)>
+    requires place { Within s.now at }
+    requires callable { F.IsAlwaysCallable simple }
+    ensures { (f : Span → Simple) → ((v : Span) (x : Simple) → F.post simple name v x → x ≡ f v) → result ≡ operator_at s.now f at }
 {
     let from = scan::expect_and_skip(s, at, b'=')?;
-    let (value, next) = read_operand(t, s, from)?;
-    Some((operate(op, name, value), next))
+    read_value(t, s, name, from, simple)
 }
 
 // What follows `[`.
@@ -94,11 +105,17 @@ fn parse_attribute(t: &Marks, s: &[u8], at: usize) -> Option<(Simple, usize)>
     let b = scan::current_cpy(s, end)?;
     match b {
         b']' => Some((Simple::Attribute(name), end + 1)),
-        b'=' => {
-            let (value, next) = read_operand(t, s, end + 1)?;
-            Some((Simple::AttributeValue(name, value), next))
-        }
-        b'~' | b'^' | b'$' | b'*' => read_operator(t, s, name, b, end + 1),
+        b'=' => read_value(t, s, name, end + 1, Simple::AttributeValue),
+        b'~' => read_operator(
+            t,
+            s,
+            name,
+            end + 1,
+            Simple::AttributeValueWhitespacedContains,
+        ),
+        b'^' => read_operator(t, s, name, end + 1, Simple::AttributeValueStartsWith),
+        b'$' => read_operator(t, s, name, end + 1, Simple::AttributeValueEndsWith),
+        b'*' => read_operator(t, s, name, end + 1, Simple::AttributeValueSubstring),
         _ => None,
     }
 }
@@ -120,13 +137,10 @@ pub fn parse_simple(t: &Marks, s: &[u8], at: usize) -> Option<(Simple, usize)>
         }
         b'*' => Some((Simple::All, at + 1)),
         b'[' => parse_attribute(t, s, at + 1),
-        _ => {
-            if t.is_ident(b) {
-                let tag = read_identifier(t, s, at);
-                Some((Simple::Tag(tag), tag.end as usize))
-            } else {
-                None
-            }
+        _ if t.is_ident(b) => {
+            let tag = read_identifier(t, s, at);
+            Some((Simple::Tag(tag), tag.end as usize))
         }
+        _ => None,
     }
 }

@@ -21,7 +21,8 @@ use Rattle.rules.specs.Scan.{pick}
 use Rattle.rules.specs.Table.{node_at}
 use Rattle.rules.specs.declared.Node.{Node}
 use Rattle.rules.specs.Sound.{tagged, places_sound, ended_sound, last_at, reaching, parent_at, row_sound}
-use Rattle.rules.proofs.Sound.{and_left, and_right, sound_row, climb_step, reaching_le, reaching_here, reaching_pass}
+use Rattle.std.proofs.lemmas.Bool.{and_parts}
+use Rattle.rules.proofs.Sound.{sound_row, climb_step, reaching_le, reaching_here, reaching_pass}
 use Rattle.sound.specs.Row.{own_sound, under_sound, Starts, next_of}
 
 -- ---- a row by itself
@@ -36,12 +37,12 @@ implied false s e f = rw and-false
 -- a tag's places are in order, so its start is not after its end
 ordered : (a b c d e : ℕ) → (ltb a b && leb b c && ltb c d && leb d e) ≡ true → leb a e ≡ true
 ordered a b c d e t =
-    let abcd = and_left (ltb a b && leb b c && ltb c d) (leb d e) t in
-    let abc = and_left (ltb a b && leb b c) (ltb c d) abcd in
-    let ab = ltb-true a b (and_left (ltb a b) (leb b c) abc) in
-    let bc = leb-true b c (and_right (ltb a b) (leb b c) abc) in
-    let cd = ltb-true c d (and_right (ltb a b && leb b c) (ltb c d) abcd) in
-    let de = leb-true d e (and_right (ltb a b && leb b c && ltb c d) (leb d e) t) in
+    let abcd = (and_parts (ltb a b && leb b c && ltb c d) (leb d e) t).0 in
+    let abc = (and_parts (ltb a b && leb b c) (ltb c d) abcd).0 in
+    let ab = ltb-true a b (and_parts (ltb a b) (leb b c) abc).0 in
+    let bc = leb-true b c (and_parts (ltb a b) (leb b c) abc).1 in
+    let cd = ltb-true c d (and_parts (ltb a b && leb b c) (ltb c d) abcd).1 in
+    let de = leb-true d e (and_parts (ltb a b && leb b c && ltb c d) (leb d e) t).1 in
     le-leb a e (omega arith)
 
 module _ (len : ℕ) (n : Node) where
@@ -56,7 +57,7 @@ module _ (len : ℕ) (n : Node) where
   tag_end_lem k e =
       let front = ltb n.start n.name && leb n.name n.stop && ltb n.stop n.opened in
       leb-true n.opened n.end
-      (and_right front (leb n.opened n.end) (and_left (front && leb n.opened n.end) (leb n.end len) (tag_places k ∙ e)))
+      (and_parts front (leb n.opened n.end) (and_parts (front && leb n.opened n.end) (leb n.end len) (tag_places k ∙ e)).0).1
 
 -- the numbers with which a tag may have ended, where a closing tag closed it, and where none did; own says that it is its own last
 abbrev ends_by : ℕ → Bool → Bool → Bool → Bool
@@ -225,13 +226,13 @@ module _ (len : ℕ) (ws : List ℕ) (count h : ℕ) where
 
   -- a node that is right about its parent names it
   pub own_parent : (n : Node) → under_sound ws (parent_at ws h) n ≡ true → n.parent ≡ parent_at ws h
-  own_parent n e = eqb-true n.parent (parent_at ws h) (and_left (eqb n.parent (parent_at ws h)) _ e)
+  own_parent n e = eqb-true n.parent (parent_at ws h) (and_parts (eqb n.parent (parent_at ws h)) _ e).0
 
   pub own_last : (n : Node) → own_sound len count h n ≡ true → h ≤ n.last
   own_last n e =
-      let last = and_right (places_sound len n && ended_sound h n) (last_sound len count h n) e in
-      let low = and_left (leb h n.last && ltb n.last count) (tagged n || eqb n.last h) last in
-      leb-true h n.last (and_left (leb h n.last) (ltb n.last count) low)
+      let last = (and_parts (places_sound len n && ended_sound h n) (last_sound len count h n) e).1 in
+      let low = (and_parts (leb h n.last && ltb n.last count) (tagged n || eqb n.last h) last).0 in
+      leb-true h n.last (and_parts (leb h n.last) (ltb n.last count) low).0
 
   pub next_not : (r : Option ℕ) → r ≡ next_of len ws count h → r ≡ None → row_sound len ws count h ≡ false
   next_not r e u = go (row_sound len ws count h) _ (sym e ∙ u)

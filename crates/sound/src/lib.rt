@@ -3,155 +3,174 @@
 #![tactic(auto)]
 
 ghost use Rattle.std.specs.Prelude.{◌≡◌, ◌↔◌, ◌&&◌, ℕ, ◌+◌, ◌^◌, ◌≤◌, ◌<◌, true, length, get_or, IsSome, IfSome};
-ghost use Rattle.rules.specs.Table.{head_words, row_words, row_at, node_at};
+ghost use Rattle.rules.specs.Table.{head_words, row_at, node_at};
 ghost use Rattle.rules.specs.Sound.{places_sound, ended_sound, head_sound, parent_at, row_sound, count_of, is_tag, sound, all};
 ghost use Rattle.sound.specs.Row.{own_sound, under_sound, Starts, next_of};
 ghost use Rattle.sound.specs.Document.{Places};
 
-use rules::Node;
+use rules::{Ended, HTML5, Kind, Node};
 
-// ---- a row by itself
-
-// Each test reads the row anew, and so just the words that it looks at: with a whole row in hand they do not all fit the registers.
-
-// The places of a tag, in order: so its start is not after its end.
-fn tag_places(table: &[u32], h: usize, len: usize) -> bool
-    requires { (row_at h + row_words ≤ length table.now) × ((node_at table.now h).kind ≡ 1) }
-    ensures { result ≡ places_sound len (node_at table.now h) }
-{
-    let n = table::row_at(table, h);
-    let end = n.end as usize;
-    (n.start < n.name)
-        & (n.name <= n.stop)
-        & (n.stop < n.opened)
-        & (n.opened <= n.end)
-        & (end <= len)
+// The rows of a table that has room for them, beside a page of `len` bytes.
+#[derive(Clone, Copy)]
+struct TableRows<'a> {
+    table: &'a [u32],
+    len: usize,
+    count: usize,
+    ghost room: { row_at count ≤ length table.now },
 }
 
-// How a tag ended: with an end above word 5 a closing tag closed it; else it was left open, or was never opened and then holds no other
-// row. What most tags have is tried first: 1 where the end is above, and else 0.
-fn tag_ended(table: &[u32], h: usize) -> bool
-    requires row_words_in_bounds { row_at h + row_words ≤ length table.now }
-    requires tag { ((node_at table.now h).kind ≡ 1) × ((node_at table.now h).opened ≤ (node_at table.now h).end) }
-    ensures { result ≡ ended_sound h (node_at table.now h) }
-{
-    let n = table::row_at(table, h);
-    let above = (n.opened < n.end) as u32;
-    if n.ended == above {
-        return true;
+impl<'a> TableRows<'a> {
+    fn row(&self, h: usize) -> Node
+        requires { h < self.now.count }
+        ensures { result ≡ node_at self.now.table.now h }
+    {
+        table::row_at(self.table, h)
     }
-    if above == 1 {
-        return n.ended == 2;
+
+    // ---- a row by itself
+
+    // Each test reads the row anew, and so just the words that it looks at: with a whole row in hand they do not all fit the registers.
+
+    // The places of a tag, in order: so its start is not after its end.
+    fn tag_places(&self, h: usize) -> bool
+        requires handle { h < self.now.count }
+        requires tag { (node_at self.now.table.now h).kind ≡ 1 }
+        ensures { result ≡ places_sound self.now.len (node_at self.now.table.now h) }
+    {
+        let n = self.row(h);
+        let end = n.end as usize;
+        (n.start < n.name)
+            & (n.name <= n.stop)
+            & (n.stop < n.opened)
+            & (n.opened <= n.end)
+            & (end <= self.len)
     }
-    let last = n.last as usize;
-    (n.ended == 3) & (last == h)
-}
 
-// Kind, places and ending of another node, which is its own last.
-fn other_sound(table: &[u32], h: usize, len: usize) -> bool
-    requires row_words_in_bounds { row_at h + row_words ≤ length table.now }
-    requires no_tag { ((node_at table.now h).kind ≡ 1 → ⊥) × ((node_at table.now h).last ≡ h) }
-    ensures { result ≡ (places_sound len (node_at table.now h) && ended_sound h (node_at table.now h)) }
-{
-    let n = table::row_at(table, h);
-    let end = n.end as usize;
-    (1 <= n.kind)
-        & (n.kind <= 3)
-        & (n.start <= n.end)
-        & (end <= len)
-        & (n.name == 0)
-        & (n.stop == 0)
-        & (n.opened == 0)
-        & (n.ended == 0)
-}
+    // How a tag ended: with an end above word 5 a closing tag closed it; else it was left open, or was never opened and then holds no
+    // other row. What most tags have is tried first: closed where the end is above, and else open, the words 1 and 0 by one comparison.
+    fn tag_ended(&self, h: usize) -> bool
+        requires handle { h < self.now.count }
+        requires tag { let n = node_at self.now.table.now h in (n.kind ≡ 1) × (n.opened ≤ n.end) }
+        ensures { result ≡ ended_sound h (node_at self.now.table.now h) }
+    {
+        let n = self.row(h);
+        let above = (n.opened < n.end) as u32;
+        if n.ended == above {
+            return true;
+        }
+        if above == 1 {
+            return n.ended == Ended::CutShort as u32;
+        }
+        let last = n.last as usize;
+        (n.ended == Ended::NeverOpened as u32) & (last == h)
+    }
 
-// What row h says of itself. The last of another node than a tag is h, which is below the count.
-fn own_sound(table: &[u32], len: usize, count: usize, h: usize) -> bool
-    requires { (h < count) × (row_at h + row_words ≤ length table.now) }
-    ensures { result ≡ own_sound len count h (node_at table.now h) }
-{
-    let n = table::row_at(table, h);
-    let last = n.last as usize;
-    if n.kind == 1 {
-        if last < h {
+    // Kind, places and ending of a node that is no tag, and is its own last.
+    fn other_sound(&self, h: usize) -> bool
+        requires handle { h < self.now.count }
+        requires no_tag { let n = node_at self.now.table.now h in (n.kind ≡ 1 → ⊥) × (n.last ≡ h) }
+        ensures { let n = node_at self.now.table.now h in
+            result ≡ (places_sound self.now.len n && ended_sound h n) }
+    {
+        let n = self.row(h);
+        let end = n.end as usize;
+        (Kind::Tag as u32 <= n.kind)
+            & (n.kind <= Kind::Comment as u32)
+            & (n.start <= n.end)
+            & (end <= self.len)
+            & (n.name == 0)
+            & (n.stop == 0)
+            & (n.opened == 0)
+            & (n.ended == Ended::Open as u32)
+    }
+
+    // What row h says of itself. The last of another node than a tag is h, which is below the count.
+    fn own_sound(&self, h: usize) -> bool
+        requires { h < self.now.count }
+        ensures { result ≡ own_sound self.now.len self.now.count h (node_at self.now.table.now h) }
+    {
+        let n = self.row(h);
+        let last = n.last as usize;
+        if n.is_tag() {
+            if last < h {
+                return false;
+            }
+            if self.count <= last {
+                return false;
+            }
+            if !self.tag_places(h) {
+                return false;
+            }
+            return self.tag_ended(h);
+        }
+        if last != h {
             return false;
         }
-        if count <= last {
-            return false;
-        }
-        if !tag_places(table, h, len) {
-            return false;
-        }
-        return tag_ended(table, h);
+        self.other_sound(h)
     }
-    if last != h {
-        return false;
-    }
-    other_sound(table, h, len)
-}
 
-// ---- a row and its parent
+    // ---- a row and its parent
 
-// What the node n of row h says of its parent. It climbs from row `from` - 1 through parents, which are right below h, as far as
-// n's own: no row that is passed may reach h. The rows between a row and its parent end before that row, so they cannot either.
-fn under(table: &[u32], n: Node, h: usize, from: usize) -> bool
-    requires h_in_bounds { (row_at h ≤ length table.now) × Starts table.now h from × (h ≤ n.last) }
-    requires by_index { (j : ℕ) → j < h → (node_at table.now j).parent ≡ parent_at table.now j }
-    ensures { result ≡ under_sound table.now (parent_at table.now h) n }
-{
-    let parent = n.parent as usize;
-    let mut p = from;
-    // A climb from row to row: there is no index to count.
-    while p != parent {
+    // What the node n of row h says of its parent. It climbs from row `from` - 1 through parents, by their words, as far as n's own: each
+    // lies below h as its word says, and none that is passed may reach h. The rows between a row and its parent end before that row.
+    fn under(&self, n: Node, h: usize, from: usize) -> bool
+        requires h_in_bounds { (h < self.now.count) × Starts self.now.table.now h from × (h ≤ n.last) }
+        requires by_index { (j : ℕ) → j < h → (node_at self.now.table.now j).parent ≡ parent_at self.now.table.now j }
+        ensures { result ≡ under_sound self.now.table.now (parent_at self.now.table.now h) n }
+    {
+        let parent = n.parent as usize;
+        let mut p = from;
+        // A climb from row to row: there is no index to count.
+        while p != parent {
+            if p == 0 {
+                return false;
+            }
+            let m = self.row(p - 1);
+            let last = m.last as usize;
+            if h <= last {
+                return false;
+            }
+            p = m.parent as usize;
+        }
         if p == 0 {
-            return false;
+            return true;
         }
-        let m = table::row_at(table, p - 1);
-        let last = m.last as usize;
-        if h <= last {
-            return false;
+        let m = self.row(p - 1);
+        n.last <= m.last
+    }
+
+    // Row h, whose climb starts at `from`. The next row may lie in h if that is a tag, and else in no row after the parent of h.
+    fn row_sound(&self, h: usize, from: usize) -> Option<usize>
+        requires h_lt_count { (h < self.now.count) × Starts self.now.table.now h from }
+        requires by_index { (j : ℕ) → j < h → (node_at self.now.table.now j).parent ≡ parent_at self.now.table.now j }
+        ensures { result ≡ next_of self.now.len self.now.table.now self.now.count h }
+    {
+        let n = self.row(h);
+        if !self.own_sound(h) {
+            return None;
         }
-        p = m.parent as usize;
+        if !self.under(n, h, from) {
+            return None;
+        }
+        if n.is_tag() {
+            return Some(h + 1);
+        }
+        Some(n.parent as usize)
     }
-    if p == 0 {
-        return true;
-    }
-    let m = table::row_at(table, p - 1);
-    n.last <= m.last
-}
 
-// Row h, whose climb starts at `from`. The next row may lie in h if that is a tag, and else in no row after the parent of h.
-fn row_sound(table: &[u32], len: usize, count: usize, h: usize, from: usize) -> Option<usize>
-    requires h_lt_count { (h < count) × (row_at count ≤ length table.now) × Starts table.now h from }
-    requires by_index { (j : ℕ) → j < h → (node_at table.now j).parent ≡ parent_at table.now j }
-    ensures { result ≡ next_of len table.now count h }
-{
-    let n = table::row_at(table, h);
-    if !own_sound(table, len, count, h) {
-        return None;
+    // All rows. A loop: its invariant says that the climb for h may start at `from`, where a fold would ask that anew of each turn.
+    fn rows_sound(&self) -> bool
+        ensures { result ≡ all (row_sound self.now.len self.now.table.now self.now.count) self.now.count }
+    {
+        let mut from = 0;
+        for h in 0..self.count {
+            let Some(next) = self.row_sound(h, from) else {
+                return false;
+            };
+            from = next;
+        }
+        true
     }
-    if !under(table, n, h, from) {
-        return None;
-    }
-    if n.kind == 1 {
-        return Some(h + 1);
-    }
-    Some(n.parent as usize)
-}
-
-// All rows.
-fn rows_sound(table: &[u32], len: usize, count: usize) -> bool
-    requires { row_at count ≤ length table.now }
-    ensures { result ≡ all (row_sound len table.now count) count }
-{
-    let mut from = 0;
-    for h in 0..count {
-        let Some(next) = row_sound(table, len, count, h, from) else {
-            return false;
-        };
-        from = next;
-    }
-    true
 }
 
 // ---- the table
@@ -161,7 +180,7 @@ fn head_sound(table: &[u32], len: usize) -> bool
     requires { head_words ≤ length table.now }
     ensures { result ≡ head_sound len table.now }
 {
-    ((table[1] == 0) | (table[1] == 5))
+    ((table[1] == 0) | (table[1] == HTML5))
         & (table[2] as usize == len)
         & (table[3] == table::HEAD as u32)
         & (table[4] == table::ROW as u32)
@@ -186,7 +205,7 @@ pub fn table_sound(table: &[u32], len: usize) -> bool
     if room < count {
         return false;
     }
-    rows_sound(table, len, count)
+    TableRows { table, len, count }.rows_sound()
 }
 
 // ---- what every question is asked of
@@ -200,7 +219,7 @@ pub struct Document<'a> {
 }
 
 impl<'a> Document<'a> {
-    // The page with the table, if that is sound for it.
+    // The page with the table, if that is sound for it. Not by `then_some`, which would make the document before the test.
     pub fn new(page: &'a [u8], table: &'a [u32]) -> Option<Document<'a>>
         ensures sound { IsSome result ↔ (sound (length page.now) table.now ≡ true) }
         ensures lent { IfSome result (λ d. (d.page.now ≡ page.now) × (d.table.now ≡ table.now)) }
@@ -211,7 +230,8 @@ impl<'a> Document<'a> {
         None
     }
 
-    // How many rows the table has.
+    // How many rows the table has. Walks ask by handle: an iterator of rows would serve few of them, as the others go down, or over a
+    // part of the rows, or want no node.
     pub fn count(&self) -> usize
         ensures rows { result ≡ count_of self.now.table.now }
         ensures word { result < 2 ^ 32 }
@@ -226,7 +246,7 @@ impl<'a> Document<'a> {
         self.table[1]
     }
 
-    // The node of row h.
+    // The node of row h. A handle is a number, as the calls are given it and answer it.
     pub fn row(&self, h: usize) -> Node
         requires { h < count_of self.now.table.now }
         ensures node { result ≡ node_at self.now.table.now h }
@@ -240,6 +260,6 @@ impl<'a> Document<'a> {
     pub fn is_tag(&self, h: usize) -> bool
         ensures { result ≡ is_tag self.now.table.now h }
     {
-        h < self.count() && self.row(h).kind == 1
+        h < self.count() && self.row(h).is_tag()
     }
 }

@@ -2,10 +2,10 @@
 
 #![tactic(auto)]
 
-ghost use Rattle.std.specs.Prelude.{◌≡◌, ◌++◌, ◌+◌, ◌≤◌, length, drop};
+ghost use Rattle.std.specs.Prelude.{◌≡◌, ◌++◌, ◌+◌, ◌≤◌, length, drop, replicate};
 ghost use Rattle.rules.specs.Reader.{closed};
 ghost use Rattle.rules.specs.Refusals.{Refuses};
-ghost use Rattle.rules.specs.Table.{head_words, row_words, words_of, row_at, put_row, node_of, node_at, head_of};
+ghost use Rattle.rules.specs.Table.{head_words, row_words, row_at, put_row, node_at, head_of};
 
 use rules::{Node, Refusal};
 
@@ -25,7 +25,7 @@ pub fn put_row(table: &mut [u32], h: usize, n: Node)
     ]);
 }
 
-// The node of row h.
+// The node of row h. Word by word: to become an array, as for `put_row`, a slice needs a conversion that may fail.
 pub fn row_at(table: &[u32], h: usize) -> Node
     requires { row_at h + row_words ≤ length table.now }
     ensures { result ≡ node_at table.now h }
@@ -66,10 +66,43 @@ pub fn put_head(table: &mut [u32], count: u32, version: u32, len: u32)
     table[..HEAD].copy_from_slice(&[count, version, len, HEAD as u32, ROW as u32, 0, 0, 0]);
 }
 
-// A refusal leaves the lent words all zero.
-pub fn refuse(words: &mut [u32], why: Refusal) -> Result<usize, Refusal>
-    ensures { Refuses words.old why result words.new }
+// An entry of a buffer that is lent for an answer: a byte, a word or a place.
+pub trait Entry {
+    ghost zero: { Self };
+
+    // Each type clears its own: `fill` over any type would ask for a `clone` that cannot fail.
+    fn clear(buffer: &mut [Self])
+        ensures { buffer.new ≡ replicate (length buffer.old) zero };
+}
+
+impl Entry for u8 {
+    ghost zero = { 0 };
+
+    fn clear(bytes: &mut [u8]) {
+        bytes.fill(0);
+    }
+}
+
+impl Entry for u32 {
+    ghost zero = { 0 };
+
+    fn clear(words: &mut [u32]) {
+        words.fill(0);
+    }
+}
+
+impl Entry for usize {
+    ghost zero = { 0 };
+
+    fn clear(places: &mut [usize]) {
+        places.fill(0);
+    }
+}
+
+// A refusal leaves the lent buffer all zero.
+pub fn refuse<T: Entry>(buffer: &mut [T], why: Refusal) -> Result<usize, Refusal>
+    ensures { Refuses T.zero buffer.old why result buffer.new }
 {
-    words.fill(0);
+    T::clear(buffer);
     Err(why)
 }

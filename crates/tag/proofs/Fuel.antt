@@ -11,7 +11,8 @@ use Rattle.rules.specs.Lookup.{attributes}
 use Rattle.rules.specs.declared.Attribute.{Attribute}
 use Rattle.rules.proofs.Runs.{skip_le, skip_end}
 use Rattle.rules.proofs.Places.{here_false}
-use Rattle.laws.proofs.Cut.{next_scans, next_strict, here_below}
+use Rattle.rules.proofs.Places.{here_below}
+use Rattle.laws.proofs.Cut.{next_scans, next_strict}
 
 module _ (white : ℕ → Bool) (p : List ℕ) where
   -- the attribute from i on, and what follows it
@@ -52,9 +53,9 @@ module _ (white : ℕ → Bool) (p : List ℕ) where
     from_more y = go (length p) refl
       where
         go : (k : ℕ) → length p ≡ k → attributes white p k i ≡ attribute_at white p s ∷ attributes white p k (attribute_next white p s)
-        go zero q = absurd (omega (arith, here_below white not_closing p s y))
+        go zero q = absurd (omega (arith, here_below not_closing p s _ refl y))
         go (suc k) q =
-            let b : s < length p = here_below white not_closing p s y in
+            let b : s < length p = here_below not_closing p s _ refl y in
             rw (← e, y)
             (ap (λ (r : List Attribute). attribute_at white p s ∷ r)
             (enough k (attribute_next white p s) ((next_scans white).within p s (omega arith)) (omega (arith, next_strict white p s y))))
@@ -62,5 +63,5 @@ module _ (white : ℕ → Bool) (p : List ℕ) where
     -- the next attribute starts later, and in the page
     pub from_on : here not_closing p s ≡ true → (i < attribute_next white p s) × (attribute_next white p s ≤ length p)
     from_on y =
-        let b : s < length p = here_below white not_closing p s y in
+        let b : s < length p = here_below not_closing p s _ refl y in
         (omega (arith, next_strict white p s y), (next_scans white).within p s (omega arith))

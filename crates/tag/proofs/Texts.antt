@@ -1,12 +1,11 @@
 -- The walks over the rows below h: row k was the last one read, and what is left is the text of the rows after it.
 use mathlib.Core.Path.{◌≡◌, ap}
-use mathlib.Core.Bool.{true}
+use mathlib.Core.Bool.{true, false}
 use mathlib.Core.List.{List, [], ◌++◌}
 use Prim.Native.Nat.{ℕ, suc, ◌+◌, ◌≤◌, ◌<◌}
 use native.Mathlib.Numerals.{add-one}
 use native.Mathlib.Omega.{arith}
 use lib.ListN.{length}
-use borrow.Author.Tests.{eq-eqb, ne_eqb}
 use Rattle.rules.specs.Scan.{pick}
 use Rattle.rules.specs.Table.{row_at, row_words, node_at}
 use Rattle.rules.specs.Sound.{count_of, last_at, sound, tagged}
@@ -24,9 +23,6 @@ pub record Walk (ws : List ℕ) (h last k : ℕ) : Type 0 where
   pub low : h ≤ k
   pub high : k ≤ last
 
-pub walk_next : {ws : List ℕ} {h last k : ℕ} → Walk ws h last k → k < last → Walk ws h last (k + 1)
-walk_next w t = record { top = w.top; count = w.count; low = omega (arith, w.low); high = omega arith }
-
 -- the text of the rows of h after row k
 abbrev pub after : List ℕ → List ℕ → ℕ → ℕ → List ℕ
 after p ws h k = text_from p ws h (suc k)
@@ -37,10 +33,6 @@ after_all p ws h = text_all p ws h
 module _ (p ws : List ℕ) {h last k : ℕ} (w : Walk ws h last k) where
   pub after_none : last ≤ k → after p ws h k ≡ []
   after_none l = text_none p ws h (suc k) (omega (arith, w.top))
-
-  -- the next row is n
-  pub after_next : k < last → {n : Node} → n ≡ node_at ws (k + 1) → after p ws h k ≡ text_of p n ++ after p ws h (k + 1)
-  after_next t q = rw (q, add-one) (text_next p ws h (suc k) (omega (arith, w.top)))
 
 -- ---- the text of the rows of h from row k on; the last of h is that of its node
 
@@ -82,9 +74,6 @@ module _ (p ws : List ℕ) (e : sound (length p) ws ≡ true) where
       record { top = ap (λ (n : Node). n.last) q; count = r.high; low = omega arith; high = r.low }
 
   module _ {h last k : ℕ} (w : Walk ws h last k) (t : k < last) where
-    pub next_fits : row_at (k + 1) + row_words ≤ length ws
-    next_fits = fits (k + 1) (omega (arith, w.count))
-
     module _ {n : Node} (q : n ≡ node_at ws (k + 1)) where
       pub next_row : Row (k + 1) n
       next_row = row (omega (arith, w.count)) q
@@ -94,11 +83,11 @@ module _ (p ws : List ℕ) (e : sound (length p) ws ≡ true) where
       child =
           rw (q, add-one) (text_child (length p) p ws e h (suc k) (omega (arith, w.low, w.count)) (omega (arith, w.low)) (omega (arith, w.top)))
 
-      pub after_tag : n.kind ≡ 1 → after p ws h k ≡ inner_text p ws (k + 1) ++ after p ws h n.last
-      after_tag y = rw (eq-eqb n.kind 1 y) at child
+      pub after_tag : tagged n ≡ true → after p ws h k ≡ inner_text p ws (k + 1) ++ after p ws h n.last
+      after_tag y = rw y at child
 
-      pub after_leaf : (n.kind ≡ 1 → ⊥) → after p ws h k ≡ text_of p n ++ after p ws h n.last
-      after_leaf x = rw (ne_eqb n.kind 1 x) at child
+      pub after_leaf : tagged n ≡ false → after p ws h k ≡ text_of p n ++ after p ws h n.last
+      after_leaf x = rw x at child
 
       pub walk_child : Walk ws h last n.last
       walk_child =

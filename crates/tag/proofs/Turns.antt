@@ -11,7 +11,7 @@ use Rattle.rules.specs.Scan.{pick, skip, here}
 use Rattle.rules.specs.Attributes.{not_closing, attribute_at, attribute_next}
 use Rattle.rules.specs.declared.Attribute.{Attribute}
 use Rattle.rules.proofs.Runs.{skip_ge, skip_le}
-use Rattle.laws.proofs.Cut.{here_below}
+use Rattle.rules.proofs.Places.{here_below}
 use Rattle.tag.proofs.Fuel.{from, from_none, from_more, from_on}
 use Rattle.tag.specs.Tag.{next_of}
 
@@ -31,7 +31,7 @@ module _ (white : ℕ → Bool) (p : List ℕ) where
     there : here not_closing p at ≡ true → Turn i (attribute_at white p at)
     unfolding attribute_at attribute_next
     there y =
-        let b : at < length p = here_below white not_closing p at y in
+        let b : at < length p = here_below not_closing p at _ refl y in
         let on = from_on white p i at refl y in
         record {
           cut = from_more white p i at refl y;

@@ -3,11 +3,13 @@
 #![tactic(auto)]
 
 ghost use Rattle.std.specs.Iterator.{YieldsFirst, item_count};
-ghost use Rattle.std.specs.Prelude.{◌≡◌, true, false, ◌+◌, ◌^◌, ◌≤◌, ◌<◌, length};
+ghost use Rattle.std.specs.Prelude.{◌≡◌, true, false, ◌+◌, ◌-◌, ◌^◌, ◌≤◌, ◌<◌, length};
 ghost use Rattle.rules.specs.Scan.{part, same};
 ghost use Rattle.rules.specs.Words.{Within};
-ghost use Rattle.rules.specs.Lookup.{is_last, held_as, attributes, first_of, last_of, lookup_from};
-ghost use Rattle.rules.specs.Sound.{count_of};
+ghost use Rattle.rules.specs.Lookup.{is_last, held_as, attributes, first_of, last_of, lookup_from, up_to};
+ghost use Rattle.rules.specs.Sound.{count_of, is_tag};
+ghost use Rattle.rules.specs.Table.{node_at};
+ghost use Rattle.rules.specs.Query.{name_of};
 ghost use Rattle.rules.specs.Text.{inner_text};
 ghost use Rattle.rules.specs.Buffers.{Wrote};
 ghost use Rattle.rules.specs.Answers.{range_of};
@@ -18,8 +20,10 @@ ghost use Rattle.tag.specs.Tag.{Looked, GoesOn, left, next_of, text_of};
 use rules::{Attribute, Held, Node};
 use scan::Marks;
 use sound::Document;
+use std::simd::Simd;
 
-// ---- attributes: `t` is the lent table of marks
+// ---- attributes: `t` is the lent table of marks. `first_of`, `last_of` and `get` take it with the page and a place: as methods of
+// `Attributes` they were tried, and lookups by id took a third longer.
 
 // The attribute after the white from i on; there is none at the end, nor at a `/` or `>`.
 pub fn next_attribute(t: &Marks, page: &[u8], i: usize) -> Option<Attribute>
@@ -74,7 +78,7 @@ pub fn held(bare: Held, value: Option<(usize, usize)>) -> Held
     }
 }
 
-// The first attribute of that name, from `from` on.
+// The first attribute of that name, from `from` on. No plainer by `find`: what it found, or not, would want a `match` of its own.
 fn first_of(t: &Marks, page: &[u8], from: usize, name: &[u8]) -> Held
     ensures { let p = page.now in
         let white = white_in t.now in
@@ -146,14 +150,74 @@ pub fn get(t: &Marks, page: &[u8], stop: usize, name: &[u8]) -> Held
     first_of(t, page, stop, name)
 }
 
-// What the tag n of the page holds for the name.
-pub fn attribute(t: &Marks, page: &[u8], n: Node, name: &[u8]) -> Held
-    requires { (n.stop < n.opened) × (n.opened ≤ length page.now) }
-    ensures { Looked (white_in t.now) page.now n name.now result }
-{
-    let stop = n.stop as usize;
-    let opened = n.opened as usize;
-    get(t, &page[0..opened], stop, name)
+// ---- a tag
+
+// A tag of a page: its name ends before its opening does, and that lies in the page.
+#[derive(Clone, Copy)]
+pub struct Tag<'a> {
+    pub page: &'a [u8],
+    pub node: Node,
+    ghost opening: { (node.stop < node.opened) × (node.opened ≤ length page.now) },
+}
+
+impl<'a> Tag<'a> {
+    // The tag of a document with that handle.
+    pub fn of(d: &Document<'a>, h: usize) -> Tag<'a>
+        requires { is_tag d.now.table.now h ≡ true }
+        ensures { (result.page.now ≡ d.now.page.now) × (result.node ≡ node_at d.now.table.now h) }
+    {
+        Tag {
+            page: d.page,
+            node: d.row(h),
+        }
+    }
+
+    // Its name.
+    #[inline]
+    pub fn name(&self) -> &'a [u8]
+        ensures { result.now ≡ name_of self.now.page.now self.now.node }
+    {
+        scan::part(self.page, self.node.name as usize, self.node.stop as usize)
+    }
+
+    // Its attributes, in order: the page ends for them where its opening does.
+    #[inline]
+    pub fn attributes(&self, t: &'a Marks) -> Attributes<'a>
+        ensures { (result.marks.now ≡ t.now) × (result.page.now ≡ up_to self.now.page.now self.now.node) × (result.at ≡ self.now.node.stop) }
+    {
+        let opened = self.node.opened as usize;
+        Attributes {
+            marks: t,
+            page: &self.page[..opened],
+            at: self.node.stop as usize,
+        }
+    }
+
+    // What it holds for the name.
+    #[inline(always)]
+    pub fn attribute(&self, t: &Marks, name: &[u8]) -> Held
+        ensures { Looked (white_in t.now) self.now.page.now self.now.node name.now result }
+    {
+        let attributes = self.attributes(t);
+        get(t, attributes.page, attributes.at, name)
+    }
+
+    // How many bytes its opening has after the name.
+    #[inline]
+    pub fn room(&self) -> usize
+        ensures { result ≡ self.now.node.opened - self.now.node.stop }
+    {
+        (self.node.opened - self.node.stop) as usize
+    }
+
+    // Whether k may stand in the opening. Where it does not, no name and no value there has k within, and none need be read.
+    #[inline(always)]
+    pub fn may_have(&self, k: &[u8]) -> bool
+        ensures { result ≡ false → Within k.now (part self.now.page.now self.now.node.stop self.now.node.opened) → ⊥ }
+    {
+        let stop = self.node.stop as usize;
+        k.len() <= self.room() && scan::may_hold(self.page, stop, self.node.opened as usize, k)
+    }
 }
 
 // ---- the handles below a tag
@@ -176,13 +240,14 @@ pub fn text_of<'a>(page: &'a [u8], n: Node) -> &'a [u8]
     ensures text { result.now ≡ text_of page.now n }
     ensures size { length result.now < 2 ^ 32 }
 {
-    if n.kind == 2 {
+    if n.is_text() {
         return &page[n.start as usize..n.end as usize];
     }
     &page[..0]
 }
 
-// How many bytes the inner text has.
+// How many bytes the inner text has. A loop: by `map` and `sum` it was tried, and the proof that the total fits did not close. An iterator
+// of the texts for this walk and that of `flat_text` would be longer, with its contract, than the two loops.
 pub fn text_length(d: &Document, h: usize) -> usize
     requires { h < count_of d.now.table.now }
     ensures { result ≡ length (inner_text d.now.page.now d.now.table.now h) }
@@ -195,16 +260,37 @@ pub fn text_length(d: &Document, h: usize) -> usize
     size
 }
 
-// Writes the bytes into out from `at` on, and answers the place after them. Byte by byte: with `copy_from_slice`, which calls the C
-// library, many short texts took up to half as long again.
+// Copies K to 2 K bytes: the first K and the last K, which may overlap. By `Simd` each is one load and one store; `copy_from_slice` would
+// first test whether the two slices overlap.
+#[inline(always)]
+fn copy_ends<const K: usize>(bytes: &[u8], to: &mut [u8])
+    requires size { length to.old ≡ length bytes.now }
+    requires covers { (K ≤ length bytes.now) × (length bytes.now ≤ K + K) }
+    ensures { to.new ≡ bytes.now }
+{
+    let last = bytes.len() - K;
+    Simd::<u8, K>::from_slice(bytes).copy_to_slice(to);
+    Simd::<u8, K>::from_slice(&bytes[last..]).copy_to_slice(&mut to[last..]);
+}
+
+// Writes the bytes into out from `at` on, and answers the place after them. Most texts are short: those take two copies of a fixed
+// size, which need neither a loop nor a call of the C library.
+// Buffer and place go as two: a struct of both could not say that the text still fits, which each function asks of its own text.
 pub fn copy(bytes: &[u8], out: &mut [u8], at: usize) -> usize
     requires { at + length bytes.now ≤ length out.old }
     ensures { Wrote out.old at bytes.now out.new result }
 {
-    for i in 0..bytes.len() {
-        out[at + i] = bytes[i];
+    let end = at + bytes.len();
+    let to = &mut out[at..end];
+    match bytes.len() {
+        0 => (),
+        1 => copy_ends::<1>(bytes, to),
+        2..=3 => copy_ends::<2>(bytes, to),
+        4..=7 => copy_ends::<4>(bytes, to),
+        8..=16 => copy_ends::<8>(bytes, to),
+        _ => to.copy_from_slice(bytes),
     }
-    at + bytes.len()
+    end
 }
 
 // The inner text by a flat walk over the range.
@@ -239,7 +325,7 @@ pub fn inner_text(d: &Document, h: usize, out: &mut [u8], at: usize, depth: usiz
         // the first child is the next row, the next sibling the row after a child's last
         let child = k + 1;
         let n = d.row(child);
-        if n.kind == 1 {
+        if n.is_tag() {
             i = inner_text(d, child, out, i, depth - 1);
         } else {
             i = copy(text_of(d.page, n), out, i);

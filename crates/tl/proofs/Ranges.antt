@@ -1,7 +1,7 @@
 -- A range that is answered ascends.
 use Rattle.std.proofs.Common.{Option, Some, Ok, suc}
 use Prim.Native.Nat.{ℕ}
-use mathlib.Core.Path.{◌≡◌}
+use mathlib.Core.Path.{◌≡◌, subst}
 use mathlib.Core.Bool.{Bool, true}
 use mathlib.Core.List.{List}
 use lib.Dec.{ltb}
@@ -23,3 +23,6 @@ range_ascends white p ws h =
     (λ _. cases Ascending (table_not_sound p ws) (λ _. tt)
     (λ _. cases Ascending (not_a_tag ws h) (λ _. tt)
     (λ _. cases (λ (r : Option (ℕ × ℕ)). Ascending (Ok r)) (ltb h (last_at ws h)) (ascends h (last_at ws h)) (λ _. tt))))
+
+pub ascends_at : (white : ℕ → Bool) (p ws : List ℕ) (h : ℕ) {x : Option (ℕ × ℕ)} → range_answer white p ws h ≡ Ok x → Ascending (Ok x)
+ascends_at white p ws h e = subst Ascending e (range_ascends white p ws h)

@@ -3,10 +3,10 @@
 
 #![tactic(auto)]
 
-ghost use Rattle.std.specs.Prelude.{◌≡◌, [], ◌∷◌, length};
+ghost use Rattle.std.specs.Prelude.{◌≡◌, ◌∷◌, length, Ok, IfOk, IfErr};
 ghost use Rattle.rules.specs.Bytes.{is_white};
 ghost use Rattle.rules.specs.Names.{is_void};
-ghost use Rattle.rules.specs.Refusals.{manner_of, counted_numbers, ranged_numbers, found_numbers, held_numbers, asked_numbers};
+ghost use Rattle.rules.specs.Refusals.{number_of, manner_of, ranged_numbers, found_numbers, asked_numbers};
 ghost use Rattle.rules.specs.Answers.{parse_answer, parse_table, selector_answer, selector_buffer, range_answer, text_answer, text_buffer, attribute_answer, id_answer, class_answer, class_buffer, query_answer, query_buffer, query_below_answer, query_below_buffer};
 ghost use Rattle.rules.specs.Batch.{attributes_answer, attributes_buffer, names_answer, names_buffer, texts_answer, texts_buffer, ends_buffer};
 ghost use Rattle.tl.specs.Exports.{Ascending, Exports, ExportsBoth};
@@ -15,83 +15,41 @@ use rules::{Held, Manner, Refusal};
 
 // ---- answers in numbers
 
-fn counted(answer: Result<usize, Refusal>, count: &mut usize) -> u32
-    ensures { (result ∷ count.new ∷ []) ≡ counted_numbers answer }
-{
-    match answer {
-        Ok(n) => {
-            *count = n;
-            0
-        }
-        Err(why) => {
-            *count = 0;
-            u32::from(why)
-        }
-    }
-}
-
-fn ranged(answer: Result<Option<(usize, usize)>, Refusal>, out: &mut [usize; 3]) -> u32
-    requires { Ascending answer }
-    ensures { (result ∷ out.new) ≡ ranged_numbers answer }
-{
-    match answer {
-        Ok(Some((first, last))) => {
-            *out = [last - (first - 1), first, last];
-            0
-        }
-        Ok(None) => {
-            *out = [0, 0, 0];
-            0
-        }
-        Err(why) => {
-            *out = [0, 0, 0];
-            u32::from(why)
-        }
-    }
-}
-
-fn found(answer: Result<Option<usize>, Refusal>, out: &mut [usize; 2]) -> u32
-    ensures { (result ∷ out.new) ≡ found_numbers answer }
-{
-    match answer {
-        Ok(Some(h)) => {
-            *out = [1, h];
-            0
-        }
-        Ok(None) => {
-            *out = [0, 0];
-            0
-        }
-        Err(why) => {
-            *out = [0, 0];
-            u32::from(why)
-        }
-    }
-}
-
-// A value's three numbers.
-fn held(answer: Held, out: &mut [usize; 3])
-    ensures { out.new ≡ held_numbers answer }
-{
-    match answer {
-        Held::Absent => *out = [0, 0, 0],
-        Held::Bare => *out = [1, 0, 0],
-        Held::Value(start, end) => *out = [2, start, end],
-    }
-}
-
-fn asked(answer: Result<Held, Refusal>, out: &mut [usize; 3]) -> u32
-    ensures { (result ∷ out.new) ≡ asked_numbers answer }
+// Leaves the answer where the caller asks for it, or zeros if it is a refusal, and returns the refusal's number, or 0.
+fn leave<O: Copy + Default>(answer: Result<O, Refusal>, out: &mut O) -> u32
+    ensures ok { IfOk answer (λ value. (result ≡ 0) × (out.new ≡ value)) }
+    ensures err { IfErr answer (λ why. (result ≡ number_of why) × O.is_default out.new) }
 {
     match answer {
         Ok(value) => {
-            held(value, out);
+            *out = value;
             0
         }
         Err(why) => {
-            *out = [0, 0, 0];
+            *out = O::default();
             u32::from(why)
         }
+    }
+}
+
+// How many handles a range has, the first and the last.
+fn range_numbers(range: Option<(usize, usize)>) -> [usize; 3]
+    requires { Ascending (Ok range) }
+    ensures { (0 ∷ result) ≡ ranged_numbers (Ok range) }
+{
+    match range {
+        Some((first, last)) => [last - (first - 1), first, last],
+        None => [0; 3],
+    }
+}
+
+// How many tags were found, and the handle.
+fn tag_numbers(tag: Option<usize>) -> [usize; 2]
+    ensures { (0 ∷ result) ≡ found_numbers (Ok tag) }
+{
+    match tag {
+        Some(h) => [1, h],
+        None => [0; 2],
     }
 }
 
@@ -103,14 +61,14 @@ pub fn tl_parse(page: &[u8], table: &mut [u32], count: &mut usize) -> u32
         let t = table.old in
         Exports (parse_answer is_white is_void p (length t)) (parse_table is_white is_void p t) result count.new table.new }
 {
-    counted(parser::parse(page, table), count)
+    leave(parser::parse(page, table), count)
 }
 
 // The handles below a tag: how many, the first, the last.
 pub fn tl_range(page: &[u8], table: &[u32], h: usize, answer: &mut [usize; 3]) -> u32
     ensures { (result ∷ answer.new) ≡ ranged_numbers (range_answer is_white page.now table.now h) }
 {
-    ranged(calls::range(page, table, h), answer)
+    leave(calls::range(page, table, h).map(range_numbers), answer)
 }
 
 // What a tag holds for an attribute name: which of the three, where a value starts and ends.
@@ -124,7 +82,8 @@ pub fn tl_attribute(
     ensures { let held = attribute_answer is_white page.now table.now h name.now in
         (result ∷ answer.new) ≡ asked_numbers held }
 {
-    asked(calls::attribute(page, table, h, name), answer)
+    let held = calls::attribute(page, table, h, name);
+    leave(held.map(Held::numbers), answer)
 }
 
 // The text below a tag.
@@ -134,7 +93,7 @@ pub fn tl_inner_text(page: &[u8], table: &[u32], h: usize, out: &mut [u8], count
         let b = out.old in
         Exports (text_answer is_white p ws h (length b)) (text_buffer is_white p ws h b) result count.new out.new }
 {
-    counted(calls::inner_text(page, table, h, out), count)
+    leave(calls::inner_text(page, table, h, out), count)
 }
 
 // The tag with an id: how many, and its handle.
@@ -149,7 +108,8 @@ pub fn tl_get_element_by_id(
         (result ∷ answer.new) ≡ found_numbers at }
 {
     let manner = Manner::from(manner);
-    found(calls::get_element_by_id(page, table, manner, id), answer)
+    let tag = calls::get_element_by_id(page, table, manner, id);
+    leave(tag.map(tag_numbers), answer)
 }
 
 // The tags with a class.
@@ -169,7 +129,7 @@ pub fn tl_get_elements_by_class_name(
         Exports (class_answer is_white p ws m k (length b)) (class_buffer is_white p ws m k b) result count.new out.new }
 {
     let manner = Manner::from(manner);
-    counted(
+    leave(
         calls::get_elements_by_class_name(page, table, manner, class, out),
         count,
     )
@@ -181,7 +141,7 @@ pub fn tl_parse_query_selector(s: &[u8], out: &mut [u32], count: &mut usize) -> 
         let b = out.old in
         Exports (selector_answer k (length b)) (selector_buffer k b) result count.new out.new }
 {
-    counted(queryselector::parse_query_selector(s, out), count)
+    leave(queryselector::parse_query_selector(s, out), count)
 }
 
 // The nodes of the page that a selector finds.
@@ -198,7 +158,7 @@ pub fn tl_query_selector(
         let b = out.old in
         Exports (query_answer is_white p ws k (length b)) (query_buffer is_white p ws k b) result count.new out.new }
 {
-    counted(calls::query_selector(page, table, s, out), count)
+    leave(calls::query_selector(page, table, s, out), count)
 }
 
 // The nodes below a tag that a selector finds.
@@ -216,7 +176,7 @@ pub fn tl_query_selector_below(
         let b = out.old in
         Exports (query_below_answer is_white p ws h k (length b)) (query_below_buffer is_white p ws h k b) result count.new out.new }
 {
-    counted(calls::query_selector_below(page, table, h, s, out), count)
+    leave(calls::query_selector_below(page, table, h, s, out), count)
 }
 
 // What each tag of a list holds for an attribute name, three words each.
@@ -235,7 +195,7 @@ pub fn tl_attributes(
         let b = out.old in
         Exports (attributes_answer is_white p ws hs (length b)) (attributes_buffer is_white p ws hs k b) result count.new out.new }
 {
-    counted(batch::attributes(page, table, handles, name, out), count)
+    leave(batch::attributes(page, table, handles, name, out), count)
 }
 
 // What each tag of a list holds for each of several attribute names, three words for each name. The names stand in one text, each
@@ -257,7 +217,7 @@ pub fn tl_attributes_for_names(
         let b = out.old in
         Exports (names_answer is_white p ws hs es (length b)) (names_buffer is_white p ws hs s es b) result count.new out.new }
 {
-    counted(
+    leave(
         batch::attributes_for_names(page, table, handles, names, ends, out),
         count,
     )
@@ -280,5 +240,5 @@ pub fn tl_inner_texts(
         let answer = texts_answer p ws hs (length e) (length b) in
         ExportsBoth answer (ends_buffer p ws hs e b) (texts_buffer p ws hs e b) result count.new ends.new out.new }
 {
-    counted(batch::inner_texts(page, table, handles, ends, out), count)
+    leave(batch::inner_texts(page, table, handles, ends, out), count)
 }

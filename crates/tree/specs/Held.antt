@@ -1,5 +1,5 @@
 -- What a table and a state hold while a page is read, and what a step does to it.
-use Rattle.std.specs.Prelude.{◌≡◌, Bool, true, false, List, [], ◌∷◌, ℕ, ◌+◌, ◌-◌, ◌≤◌, ◌<◌, length, Option, Some, None}
+use Rattle.std.specs.Prelude.{◌≡◌, Bool, List, [], ◌∷◌, ℕ, ◌+◌, ◌-◌, ◌≤◌, ◌<◌, length, Option, Some, None, ⊤}
 use Rattle.rules.specs.Scan.{pick}
 use Rattle.rules.specs.Reader.{Reading, node, parent_of, with_last}
 use Rattle.rules.specs.Table.{row_at, row_words, node_at, put_row, Filled}
@@ -52,9 +52,9 @@ pub record Written (t₁ : List ℕ) (h : ℕ) (n : Node) (t₂ : List ℕ) : Ty
   pub room : row_at h + row_words ≤ length t₁
 
 -- it was, or there was no room for it
-pub record Registered (t₁ : List ℕ) (h : ℕ) (n : Node) (t₂ : List ℕ) (r : Bool) : Type 0 where
-  pub row : r ≡ true → Written t₁ h n t₂
-  pub full : r ≡ false → length t₁ < row_at h + row_words
+pub record Registered (t₁ : List ℕ) (h : ℕ) (n : Node) (t₂ : List ℕ) (r : Option ⊤) : Type 0 where
+  pub row : r ≡ Some tt → Written t₁ h n t₂
+  pub full : r ≡ None → length t₁ < row_at h + row_words
 
 -- ---- what a step asks
 

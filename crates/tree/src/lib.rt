@@ -11,29 +11,9 @@ ghost use Rattle.rules.specs.Refusals.{page_limit};
 ghost use Rattle.rules.specs.declared.Item.TheVariants.{Tag, Close};
 ghost use Rattle.tree.specs.Held.{Step, Room, Inner, Within, Fits, Registered, moved_to, added_to, version_to, Open, Settled};
 
-use rules::{Item, Node, State};
+use rules::{Ended, HTML5, Item, Kind, Node, State};
 
-// Word 0 of a row.
-const KIND_TAG: u32 = 1;
-
-const KIND_TEXT: u32 = 2;
-
-const KIND_COMMENT: u32 = 3;
-
-// Word 8 of a row: a tag that no closing tag has closed, and every text and comment; a tag closed by a closing tag with its `>`, or by one
-// that the page's end cut short; a tag that is never opened.
-const ENDED_OPEN: u32 = 0;
-
-const ENDED_CLOSED: u32 = 1;
-
-const ENDED_CUT_SHORT: u32 = 2;
-
-const ENDED_NEVER_OPENED: u32 = 3;
-
-// The version of a page whose document type names html.
-const HTML5: u32 = 5;
-
-// ---- the state
+// ---- the state: a value beside the lent table, and no struct with it, since a step without room leaves no state
 
 // The state at another place.
 fn moved(s: State, at: usize) -> State
@@ -47,11 +27,12 @@ fn added(s: State, at: usize, inner: u32) -> State
     requires { s.count < page_limit }
     ensures { result ≡ added_to s at inner }
 {
+    let count = s.count + 1;
     State {
         at,
-        count: s.count + 1,
+        count,
         inner,
-        version: s.version,
+        ..s
     }
 }
 
@@ -66,19 +47,19 @@ fn set_version(s: State, html: bool, at: usize) -> State
 // ---- rows
 
 // Writes a new row, if there is room for it.
-fn register_tag(table: &mut [u32], h: usize, n: Node) -> bool
+fn register_tag(table: &mut [u32], h: usize, n: Node) -> Option<()>
     requires { h < page_limit }
     ensures { Registered table.old h n table.new result }
 {
     let size = table::HEAD + table::ROW * h + table::ROW;
     if table.len() < size {
-        return false;
+        return None;
     }
     table::put_row(table, h, n);
-    true
+    Some(())
 }
 
-// A text or a comment in the innermost open tag; reading goes on at `next`. `None`: there is no room for its row.
+// A text or a comment, by its kind's word, in the innermost open tag; reading goes on at `next`. `None`: there is no room for its row.
 fn put_leaf(
     table: &mut [u32],
     s: State,
@@ -101,11 +82,9 @@ fn put_leaf(
         opened: 0,
         parent: inner,
         last: h as u32,
-        ended: ENDED_OPEN,
+        ended: Ended::Open as u32,
     };
-    if !register_tag(table, h, n) {
-        return None;
-    }
+    register_tag(table, h, n)?;
     Some(added(s, next, inner))
 }
 
@@ -117,22 +96,28 @@ fn is_void_name(page: &[u8], a: usize, e: usize) -> bool
     constants::is_void(&page[a..e])
 }
 
-// How a new tag has ended so far, where `shut` says that it is not opened.
+// How a new tag has ended so far, as its row's word, where `shut` says that it is not opened.
 fn ended_new(shut: bool) -> u32
     ensures { result ≡ pick shut 3 0 }
 {
-    if shut { ENDED_NEVER_OPENED } else { ENDED_OPEN }
+    let ended = if shut {
+        Ended::NeverOpened
+    } else {
+        Ended::Open
+    };
+    ended as u32
 }
 
-// How a closing tag ends the tag that it closes: its name ends at e, and where its `>` was passed the place after it is later.
+// How a closing tag ends the tag that it closes, as its row's word: its name ends at e, and its `>`, if it has one, is passed.
 fn ended_by(e: usize, next: usize) -> u32
     ensures { result ≡ ended_by e next }
 {
-    if e < next {
-        ENDED_CLOSED
+    let ended = if e < next {
+        Ended::Closed
     } else {
-        ENDED_CUT_SHORT
-    }
+        Ended::CutShort
+    };
+    ended as u32
 }
 
 // A tag in the innermost open tag: its name from a to e, the place after its `>`, and whether it ended in `/>`.
@@ -154,7 +139,7 @@ fn put_tag(
     let shut = slash | is_void_name(page, a, e);
     let ended = ended_new(shut);
     let n = Node {
-        kind: KIND_TAG,
+        kind: Kind::Tag as u32,
         start: s.at as u32,
         end: next as u32,
         name: a as u32,
@@ -164,9 +149,7 @@ fn put_tag(
         last: h as u32,
         ended,
     };
-    if !register_tag(table, h, n) {
-        return None;
-    }
+    register_tag(table, h, n)?;
     if shut {
         return Some(added(s, next, inner));
     }
@@ -221,10 +204,17 @@ pub fn put(table: &mut [u32], page: &[u8], s: State, item: Item) -> Option<State
     match item {
         Item::Text(e) => {
             let at = s.at;
-            put_leaf(table, s, KIND_TEXT, at, e, e)
+            put_leaf(table, s, Kind::Text as u32, at, e, e)
         }
         Item::Close { name, stop, next } => Some(close_tag(table, page, s, name, stop, next)),
-        Item::Comment { start, end, next } => put_leaf(table, s, KIND_COMMENT, start, end, next),
+        Item::Comment { start, end, next } => put_leaf(
+            table,
+            s,
+            Kind::Comment as u32,
+            start,
+            end,
+            next,
+        ),
         Item::Doctype { html, next } => Some(set_version(s, html, next)),
         Item::Tag {
             name,
@@ -245,7 +235,7 @@ pub fn settle(table: &mut [u32], inner: u32, last: u32)
     ensures { Settled table.old inner last table.new }
 {
     let mut p = inner;
-    // A climb from row to row: there is no index to count, and no stack of open tags.
+    // A climb from row to row, by their words for the parent: there is no index to count, and no stack of open tags.
     while 0 < p {
         let k = p as usize - 1;
         let n = table::row_at(table, k);

@@ -1,9 +1,9 @@
 -- A walk over handles, one by one: what is found among k handles, and the buffer into which that is written.
-use Rattle.std.proofs.Common.{Some, Ok, Err}
+use Rattle.std.proofs.Common.{Option, Some, None, MatchOption, Ok, Err}
 use mathlib.Core.Path.{◌≡◌, refl, ap, sym, ◌∙◌}
 use mathlib.Core.Bool.{Bool, true, false}
 use mathlib.Core.List.{List, [], ◌∷◌, ◌++◌, append_assoc, append-nil}
-use Prim.Native.Nat.{ℕ, suc, ◌+◌, ◌-◌, ◌≤◌, ◌<◌}
+use Prim.Native.Nat.{ℕ, zero, suc, ◌+◌, ◌-◌, ◌≤◌, ◌<◌}
 use native.Mathlib.Numerals.{add-one}
 use native.Mathlib.Omega.{arith}
 use borrow.Author.Tests.{lt-ltb, le-ltb}
@@ -55,6 +55,14 @@ module _ (f : ℕ → Bool) (lo : ℕ) where
     pub first_hit : (count : ℕ) → k < count → f h ≡ true → among k ≡ [] → Some h ≡ first_found (among count)
     first_hit count l t e = rw (cut count l t, e)
 
+  -- none is found
+  none_among : (k : ℕ) → ((j : ℕ) → lo ≤ j → j < lo + k → f j ≡ false) → among k ≡ []
+  unfolding from only
+  none_among zero t = refl
+  none_among (suc k) t =
+      let z : suc k ≡ k + 1 = omega arith in
+      ap among z ∙ miss k (lo + k) refl (t (lo + k) (omega arith) (omega arith)) ∙ none_among k (λ j l m. t j l (omega arith))
+
   -- what was found among k handles, n of them, stands in the lent buffer out₀, which is now out
   pub record Walked (out₀ out : List ℕ) (n k : ℕ) : Type 0 where
     pub number : n ≡ length (among k)
@@ -102,3 +110,11 @@ module _ (f : ℕ → Bool) (lo : ℕ) where
           is = rw (le-ltb (length out₀) (length (among count)) z, m);
           left = w.buffer ∙ rw (q, m);
         }
+
+-- what a search over the numbers below count answers: the first that passes, or that none does
+pub search_first : (f : ℕ → Bool) (count : ℕ) (r : Option ℕ)
+    → MatchOption r ((k : ℕ) → 0 ≤ k → k < count → f k ≡ false)
+    (λ i. (0 ≤ i) × (i < count) × (f i ≡ true) × ((k : ℕ) → 0 ≤ k → k < i → f k ≡ false))
+    → r ≡ first_found (only f (from 0 count))
+search_first f count None none = rw (none_among f 0 count (λ j l m. none j l (omega arith)))
+search_first f count (Some i) s = first_hit f 0 i i (omega arith) count s.1 s.2 (none_among f 0 i (λ j l m. s.3 j l (omega arith)))

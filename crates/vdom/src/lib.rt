@@ -20,28 +20,27 @@ use piece::Chain;
 use rules::{Manner, Node, Refusal};
 use scan::Marks;
 use sound::Document;
+use std::ops::Range;
 
-// The walk over the handles from lo up to end: writes those whose node passes the test into out, in order, or clears out where it has
-// no room.
+// The walk over handles, a range of the document's, as the two functions that call it ask of their callers too: writes those whose node
+// passes the test into out, in order, or clears out where it has no room.
 fn find_all<F: Fn(Node) -> bool>(
     d: &Document,
-    lo: usize,
-    end: usize,
+    handles: Range<usize>,
     test: F,
     out: &mut [u32],
 ) -> Result<usize, Refusal>
-    requires rows { (lo ≤ end) × (end ≤ count_of d.now.table.now) }
+    requires rows { (handles.start ≤ handles.end) × (handles.end ≤ count_of d.now.table.now) }
     requires test { (n : Node) → Placed d.now.page.now n → F.pre test n }
     ensures { let ws = d.now.table.now in
         (P : Node → Bool) → ((n : Node) (b : Bool) → F.post test n b → b ≡ P n)
-        → Counts (only (λ h. P (node_at ws h)) (from lo (end - lo))) out.old result out.new }
+        → Counts (only (λ h. P (node_at ws h)) (from handles.start (handles.end - handles.start))) out.old result out.new }
 {
     let mut n = 0;
-    for h in lo..end {
+    for h in handles {
         if test(d.row(h)) {
             if out.len() <= n {
-                out.fill(0);
-                return Err(Refusal::BufferTooShort);
+                return table::refuse(out, Refusal::BufferTooShort);
             }
             out[n] = h as u32;
             n += 1;
@@ -50,16 +49,11 @@ fn find_all<F: Fn(Node) -> bool>(
     Ok(n)
 }
 
-// get_element_by_id: the lowest handle.
+// get_element_by_id: the lowest handle. Marks, document and name go as they are, here and below: they are handed to nothing else.
 pub fn id_scan(t: &Marks, d: &Document, name: &[u8]) -> Option<usize>
     ensures { result ≡ first_found (by_id (white_in t.now) d.now.page.now d.now.table.now Manner.Scan name.now) }
 {
-    for h in 0..d.count() {
-        if matching::has_id(t, d.page, d.row(h), name) {
-            return Some(h);
-        }
-    }
-    None
+    (0..d.count()).find(|&h| matching::has_id(t, d.page, d.row(h), name))
 }
 
 // get_elements_by_class_name: each tag once.
@@ -68,23 +62,22 @@ pub fn class_scan(t: &Marks, d: &Document, name: &[u8], out: &mut [u32]) -> Resu
         Counts finds out.old result out.new }
 {
     let holds = |n: Node| matching::class_times(t, d.page, n, name) != 0;
-    find_all(d, 0, d.count(), holds, out)
+    find_all(d, 0..d.count(), holds, out)
 }
 
-// query_selector over the handles from lo up to end.
+// query_selector over these handles.
 pub fn query(
     t: &Marks,
     d: &Document,
-    lo: usize,
-    end: usize,
+    handles: Range<usize>,
     chain: &Chain,
     out: &mut [u32],
 ) -> Result<usize, Refusal>
-    requires { (lo ≤ end) × (end ≤ count_of d.now.table.now) }
+    requires { (handles.start ≤ handles.end) × (handles.end ≤ count_of d.now.table.now) }
     ensures { let k = chain.now in
         let fits = matches (white_in t.now) d.now.page.now d.now.table.now k.text.now (pieces_from k.pieces k.words.now 0) in
-        Counts (only fits (from lo (end - lo))) out.old result out.new }
+        Counts (only fits (from handles.start (handles.end - handles.start))) out.old result out.new }
 {
     let matches = |n: Node| matching::matches(t, d.page, n, chain);
-    find_all(d, lo, end, matches, out)
+    find_all(d, handles, matches, out)
 }

@@ -1,8 +1,8 @@
 -- Laws of `begins` and `contains`: what is shorter than k has no k in it, and a search goes from one start to the next.
-use mathlib.Core.Path.{◌≡◌, refl, sym, ap₂, ◌∙◌}
-use mathlib.Core.Bool.{Bool, true, false, ◌&&◌, ◌||◌, or_self, true≢false}
+use mathlib.Core.Path.{◌≡◌, refl, sym, ap, ap₂, ◌∙◌}
+use mathlib.Core.Bool.{Bool, true, false, ◌&&◌, ◌||◌, or_self, or-false}
 use mathlib.Core.List.{List, [], ◌∷◌}
-use Prim.Native.Nat.{ℕ, ◌+◌, ◌-◌, ◌≤◌, ◌<◌}
+use Prim.Native.Nat.{ℕ, zero, suc, ◌+◌, ◌-◌, ◌≤◌, ◌<◌}
 use native.Mathlib.Decide.{dec_le, ℕ_discrete}
 use lib.Dec.{eqb}
 use native.Mathlib.Omega.{arith}
@@ -10,6 +10,7 @@ use lib.ListN.{length, take, drop, length-take, length-drop}
 use lib.Seq.{drop-drop}
 use borrow.Author.Tests.{le-leb, lt-leb, eq-eqb, ne_eqb}
 use Rattle.std.specs.Str.{bytes_eq}
+use Rattle.std.specs.List.{list_any, range_with_len}
 use Rattle.rules.specs.Scan.{agree, same, part}
 use Rattle.rules.specs.Words.{begins, ends, contains}
 use Rattle.rules.proofs.Names.{agree_uneven}
@@ -56,11 +57,7 @@ at_end k xs = go (dec_le (length k) (length xs))
         rw (lt-leb (length k) (length xs) (omega arith))
         (sym (agree_uneven (λ x. x) (drop (length xs - length k) xs) k (λ e. omega (arith, length-drop (length xs - length k) xs))))
 
--- an empty k is found at once
-begins_not : (k xs : List ℕ) → begins k xs ≡ false → 0 < length k
-unfolding agree
-begins_not [] xs e = absurd (true≢false e)
-begins_not (x ∷ k) xs e = omega arith
+-- ---- a search: k is in xs where it begins what is left at one of its starts
 
 -- at this start, or a later one
 next : (k xs : List ℕ) → contains k xs ≡ (begins k xs || contains k (drop 1 xs))
@@ -68,23 +65,24 @@ unfolding contains
 next k [] = sym (or_self (begins k []))
 next k (x ∷ xs) = refl
 
--- ---- a search: k is in v where it is in what is left from i on; r is what the comparison at i answered
-module _ (k v : List ℕ) (i : ℕ) (inv : contains k v ≡ contains k (drop i v)) where
-  module _ (r : Bool) (e : r ≡ same (part v i (i + length k)) k) where
-    here : r ≡ begins k (drop i v)
-    here = let n : i + length k - i ≡ length k = omega arith in rw n at e
+-- the last start
+last : (k xs : List ℕ) → length xs ≡ length k → (begins k xs || false) ≡ contains k xs
+unfolding contains
+last k [] e = or-false (begins k [])
+last k (x ∷ xs) e = ap (λ (b : Bool). begins k (x ∷ xs) || b) (shorter k xs (omega arith))
 
-    split : contains k v ≡ (r || contains k (drop (i + 1) v))
-    split = inv ∙ next k (drop i v) ∙ rw (drop-drop 1 i v, sym here)
+module _ (k v : List ℕ) where
+  abbrev pub stands : ℕ → Bool
+  stands i = same (part v i (i + length k)) k
 
-    pub found : r ≡ true → true ≡ contains k v
-    found y = sym (split ∙ rw y)
+  stands_here : (i : ℕ) → stands i ≡ begins k (drop i v)
+  stands_here i = let n : i + length k - i ≡ length k = omega arith in rw n
 
-    pub missed : r ≡ false → contains k v ≡ contains k (drop (i + 1) v)
-    missed y = split ∙ rw y
+  from_start : (n i : ℕ) → i ≤ length v → n ≡ length v + 1 - length k - i → list_any stands (range_with_len i n) ≡ contains k (drop i v)
+  from_start zero i l e = shorter k (drop i v) (omega (arith, length-drop i v))
+  from_start (suc zero) i l e = rw (stands_here i) (last k (drop i v) (omega (arith, length-drop i v)))
+  from_start (suc (suc n)) i l e =
+      ap₂ ◌||◌ (stands_here i) (from_start (suc n) (i + 1) (omega arith) (omega arith) ∙ ap (contains k) (sym (drop-drop 1 i v))) ∙ sym (next k (drop i v))
 
-    -- and too little is left
-    pub missed_last : r ≡ false → length v ≤ i + length k → false ≡ contains k v
-    missed_last y h =
-        let l : 0 < length k = begins_not k (drop i v) (sym here ∙ y) in
-        shorter k (drop (i + 1) v) (rw (length-drop (i + 1) v) (omega arith)) ∙ sym (missed y)
+  pub at_starts : (n : ℕ) → n ≡ length v + 1 - length k → list_any stands (range_with_len 0 n) ≡ contains k v
+  at_starts n e = from_start n 0 (omega arith) (omega arith)

@@ -8,9 +8,12 @@ use native.Mathlib.Omega.{arith}
 use lib.ListN.{length, get_or, drop, drop_of_length-le, length-drop}
 use lib.Seq.{drop-cons, drop-drop, take-suc, get_or-drop}
 use borrow.Author.Tests.{ne_eqb}
+use Rattle.std.specs.Int.{from_bool}
+use Rattle.std.proofs.Common.{Option, Some, None}
 use Rattle.rules.specs.Scan.{pick, same, part}
 use Rattle.rules.specs.Words.{gap, word, words, words_from, times}
-use Rattle.rules.proofs.Pick.{cases}
+use Rattle.words.specs.Separators.{separator_of}
+use Rattle.words.proofs.Gaps.{there, not_there}
 
 -- ---- how often a word counts: before others
 times_word : (k w : List ℕ) (ws : List (List ℕ)) → times k (word w ws) ≡ times k (word w []) + times k ws
@@ -23,20 +26,23 @@ times_word k (x ∷ w) ws = go (same (x ∷ w) k)
     go false = omega arith
 
 -- by itself
-pub times_one : (k w : List ℕ) → (length w ≡ 0 → ⊥) → times k (word w []) ≡ pick (same w k) 1 0
+pub times_one : (k w : List ℕ) → (length w ≡ 0 → ⊥) → from_bool (same w k) ≡ times k (word w [])
 unfolding times
 times_one k [] n = absurd (n refl)
-times_one k (x ∷ w) n = refl
+times_one k (x ∷ w) n = go (same (x ∷ w) k)
+  where
+    go : (b : Bool) → from_bool b ≡ pick b 1 0
+    go true = refl
+    go false = refl
 
 pub times_none : (k w : List ℕ) → length w ≡ 0 → 0 ≡ times k (word w [])
 unfolding times
 times_none k [] e = refl
 times_none k (x ∷ w) e = absurd (omega arith)
 
-pub times_le : (k w : List ℕ) (m : ℕ) → m ≡ times k (word w []) → m ≤ 1
-unfolding times
-times_le k [] m e = omega arith
-times_le k (x ∷ w) m e = rw e (cases (λ (n : ℕ). n ≤ 1) (same (x ∷ w) k) (λ _. omega arith) (λ _. omega arith))
+pub one_at_most : (b : Bool) → from_bool b ≤ 1
+one_at_most true = omega arith
+one_at_most false = omega arith
 
 -- ---- the walk
 module _ (seps : List (List ℕ)) where
@@ -73,16 +79,17 @@ part_more v s i l h =
 module _ (seps : List (List ℕ)) (k v : List ℕ) (n s i : ℕ)
     (inv : times k (words seps v) ≡ n + times k (words_from seps (part v s i) zero (drop i v)))
   where
-    module _ (h : i < length v) (g : ℕ) (e : g ≡ gap seps (drop i v)) where
-      pub walk_on : s ≤ i → g ≡ 0 → times k (words seps v) ≡ n + times k (words_from seps (part v s (i + 1)) zero (drop (i + 1) v))
-      walk_on l z = inv ∙ rw (on seps (part v s i) v i h (sym e ∙ z), part_more v s i l h)
+    module _ (h : i < length v) (o : Option ℕ) (e : o ≡ separator_of seps (drop i v)) where
+      pub walk_on : s ≤ i → (o ≡ None) → times k (words seps v) ≡ n + times k (words_from seps (part v s (i + 1)) zero (drop (i + 1) v))
+      walk_on l z = inv ∙ rw (on seps (part v s i) v i h (not_there seps (drop i v) o e z), part_more v s i l h)
 
       -- m is how often the word that ends here counts
-      pub walk_cut : (g ≡ 0 → ⊥) → (m : ℕ) → m ≡ times k (word (part v s i) [])
+      pub walk_cut : (g : ℕ) → o ≡ Some g → (m : ℕ) → m ≡ times k (word (part v s i) [])
           → times k (words seps v) ≡ n + m + times k (words_from seps (part v (i + g) (i + g)) zero (drop (i + g) v))
-      walk_cut z m f =
+      walk_cut g y m f =
           let a : i + g - (i + g) ≡ 0 = omega arith in
-          inv ∙ rw (cut seps (part v s i) v i h g e z, times_word, a) (omega arith)
+          let S = there seps (drop i v) o e g y in
+          inv ∙ rw (cut seps (part v s i) v i h g S.0 S.1, times_word, a) (omega arith)
 
     pub walk_end : i ≡ length v → (m : ℕ) → m ≡ times k (word (part v s (length v)) []) → n + m ≡ times k (words seps v)
     unfolding words_from

@@ -25,7 +25,7 @@ put_held-at-requires c =
     let h = get_or t.handles.now l.h-index 0 in
     let room = room_next t.handles.now l.h-index (three p ws k) l.invariant (omega arith) in
     let size = three_length p ws k h in
-    (held_inside p ws k h (tag_at t l.h-index (omega arith)) c.new-t.ensures.white c.row.ensures.node c.attribute-held.ensures, omega arith)
+    (held_inside p ws k h (tag_at t l.h-index (omega arith)) c.new-t.ensures.white c.of.ensures.1 (rw c.of.ensures.0 at c.attribute-held.ensures), omega arith)
 
 pub loop-h-preserved : goal.loop-h-preserved
 loop-h-preserved c =
@@ -35,7 +35,7 @@ loop-h-preserved c =
     let k = c.args.name.now in
     let l = c.loop-h in
     let h = get_or t.handles.now l.h-index 0 in
-    let held = three_held p ws k h (tag_at t l.h-index (omega arith)) c.new-t.ensures.white c.row.ensures.node c.attribute-held.ensures in
+    let held = three_held p ws k h (tag_at t l.h-index (omega arith)) c.new-t.ensures.white c.of.ensures.1 (rw c.of.ensures.0 at c.attribute-held.ensures) in
     left_next t.handles.now l.h-index (three p ws k) l.invariant (omega arith) (rw held c.put_held-at.ensures)
 
 pub returns : goal.returns

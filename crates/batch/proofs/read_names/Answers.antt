@@ -25,8 +25,8 @@ loop-h-preserved c =
     let names = a.names.now in
     let d = a.tags.now.document in
     let tag = tag_at a.tags.now c.loop-h.h-index (omega arith) in
-    let held = words_tag d.page.now d.table.now names.text.now names.ends.now tag c.new-t.ensures.white c.row-n.ensures.node in
-    (search rules, rw c.len.ensures (done_more _ _ _ _ c.loop-h.invariant.1 (omega arith) _ (c.attributes.ensures ∙ held)))
+    let held = words_tag d.page.now d.table.now names.text.now names.ends.now tag c.new-t.ensures.white c.of-tag.ensures.1 in
+    (search rules, rw c.len.ensures (done_more _ _ _ _ c.loop-h.invariant.1 (omega arith) _ (rw c.of-tag.ensures.0 at c.attributes.ensures ∙ held)))
 
 pub returns : goal.returns
 unfolding names_found

@@ -2,12 +2,6 @@
 use native.Mathlib.Omega.{arith}
 use Rattle.calls.proofs.held_part.Goals as goal
 
-pub slice_bounds-result-count-in-Value : goal.slice_bounds-result-count-in-Value
-slice_bounds-result-count-in-Value c = let i = rw c.in-Value.is at c.requires in omega (arith, i.0)
-
-pub slice_bounds-result-start-in-Value : goal.slice_bounds-result-start-in-Value
-slice_bounds-result-start-in-Value c = let i = rw c.in-Value.is at c.requires in omega (arith, i.0, i.1)
-
 pub slice_bounds-result-end-in-Value : goal.slice_bounds-result-end-in-Value
 slice_bounds-result-end-in-Value c = let i = rw c.in-Value.is at c.requires in omega (arith, i.0, i.1)
 

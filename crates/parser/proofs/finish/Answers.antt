@@ -6,13 +6,6 @@ use Rattle.rules.proofs.Table.{filled_size}
 use Rattle.parser.proofs.Answering.{held_end}
 use Rattle.parser.proofs.finish.Goals as goal
 
-pub overflow_cast-last : goal.overflow_cast-last
-overflow_cast-last c = omega (arith, c.saturating_sub-last.ensures, c.requires.few)
-
-pub settle-requires : goal.settle-requires
-settle-requires c = let X = c.requires in
-    record { t = X.t; hd = X.hd; ns = X.R.nodes; hs = X.R.opens; rows = X.held.rows }
-
 pub put_head-requires : goal.put_head-requires
 put_head-requires c = let F = c.requires.held.rows.filled in omega (arith, F.fits, filled_size F, c.settle.auto.table)
 

@@ -3,11 +3,8 @@ use mathlib.Core.Path.{◌≡◌}
 use Prim.Native.Nat.{◌+◌, ◌-◌}
 use native.Mathlib.Omega.{arith}
 use Rattle.parser.proofs.Readings.{item_fits, room_of, inner_of}
-use Rattle.parser.proofs.Running.{along_begin, along_on, run_ended, run_last, run_full}
+use Rattle.parser.proofs.Running.{along_on, run_ended, run_last, run_full}
 use Rattle.parser.proofs.parse_single.Goals as goal
-
-pub loop-init : goal.loop-init
-loop-init c = let all : c.args.budget - 0 ≡ c.args.budget = omega arith in rw all along_begin
 
 pub returns-then-page-s : goal.returns-then-page-s
 returns-then-page-s c = run_ended c.loop.invariant c.if-page-s.true

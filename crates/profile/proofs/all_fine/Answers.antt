@@ -9,11 +9,11 @@ use Rattle.profile.proofs.all_fine.Goals as goal
 
 pub loop-i-init : goal.loop-i-init
 unfolding all
-loop-i-init c = c.numbers_fine-ok.ensures ∙ sym (and-true (numbers_fine c.args.profile.now))
+loop-i-init c = c.numbers_fine-ok.ensures ∙ sym (and-true (numbers_fine c.args.bytes.now))
 
 pub loop-i-preserved : goal.loop-i-preserved
 unfolding all
-loop-i-preserved c = let q = c.args.profile.now in
+loop-i-preserved c = let q = c.args.bytes.now in
     rw (add-one, c.name_fine-ok.ensures, c.loop-i.invariant) (and_assoc (numbers_fine q) (all (name_fine q) c.loop-i.i) (name_fine q c.loop-i.i))
 
 pub returns : goal.returns

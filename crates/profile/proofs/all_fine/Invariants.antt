@@ -6,4 +6,4 @@ use Rattle.rules.specs.Profile.{name_fine, numbers_fine}
 use Rattle.profile.proofs.all_fine.Given as goal
 
 abbrev pub invariant-loop-i : goal.invariant-loop-i
-invariant-loop-i l = l.ok ≡ (numbers_fine l.profile && all (name_fine l.profile) l.i)
+invariant-loop-i l = l.ok ≡ (numbers_fine l.bytes && all (name_fine l.bytes) l.i)

@@ -5,4 +5,4 @@ use Rattle.rules.specs.Profile.{name_byte_fine}
 use Rattle.profile.proofs.name_fine.Given as goal
 
 abbrev pub invariant-loop-j : goal.invariant-loop-j
-invariant-loop-j l = l.ok ≡ all (name_byte_fine l.profile l.i) l.j
+invariant-loop-j l = l.ok ≡ all (name_byte_fine l.bytes l.i) l.j

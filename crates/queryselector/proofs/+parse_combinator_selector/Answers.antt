@@ -6,8 +6,8 @@ use Rattle.queryselector.proofs.+parse_combinator_selector.Goals as goal
 pub parse_combinator-returns-in_default : goal.parse_combinator-returns-in_default
 parse_combinator-returns-in_default t c = search combinator_ended
 
-pub parse_combinator-join_of-join-requires : goal.parse_combinator-join_of-join-requires
-parse_combinator-join_of-join-requires t c = search byte_below
+pub parse_combinator-join_of-joiner-requires : goal.parse_combinator-join_of-joiner-requires
+parse_combinator-join_of-joiner-requires t c = search byte_below
 
 pub parse_combinator-selector-requires : goal.parse_combinator-selector-requires
 parse_combinator-selector-requires t c = search (rest_fewer, rest_room)

@@ -3,4 +3,4 @@ use Rattle.lines.proofs.Laws.{then}
 use Rattle.records.proofs.put_line.Goals as goal
 
 pub returns : goal.returns
-returns g c = then c.put.ensures (then (then c.put_field.ensures c.put_fields.ensures) c.put_byte.ensures)
+returns g c = then c.put.ensures (then (then c.put_fields.ensures c.put_fields-2.ensures) c.put_byte.ensures)

@@ -26,8 +26,8 @@ returns-in-42 c = search (simple_all, c.in_ok-b.was)
 pub returns-in-91 : goal.returns-in-91
 returns-in-91 c = search (simple_attribute, c.in_ok-b.was)
 
-pub returns-then-is_ident : goal.returns-then-is_ident
-returns-then-is_ident c = search (simple_tag, c.in_ok-b.was)
+pub returns-in_default : goal.returns-in_default
+returns-in_default c = search (simple_tag, c.in_ok-b.was)
 
-pub returns-else-is_ident : goal.returns-else-is_ident
-returns-else-is_ident c = search (simple_none, c.in_ok-b.was)
+pub returns-in_default-2 : goal.returns-in_default-2
+returns-in_default-2 c = search (simple_none, c.in_ok-b.was)

@@ -1,15 +1,12 @@
--- `selector::read_operator` meets its contract: by whether `=` stood there, and a value after it.
-use Rattle.selector.proofs.Steps.{next_within, operator_other, operator_none, operator_found}
+-- `selector::read_operator` meets its contract: by whether `=` stood there.
+use Rattle.selector.proofs.Steps.{next_within, operator_other, operator_found}
 use Rattle.selector.proofs.read_operator.Goals as goal
 
 pub returns-in_err-from : goal.returns-in_err-from
-returns-in_err-from c = rw c.from_residual.ensures (search (operator_other, c.in_err-from.was))
+returns-in_err-from g c = λ f p. rw c.from_residual.ensures (operator_other _ _ _ _ c.expect_and_skip.ensures c.in_err-from.was)
 
-pub read_operand-requires : goal.read_operand-requires
-read_operand-requires c = search (next_within, c.in_ok-from.was)
-
-pub returns-in_err-value : goal.returns-in_err-value
-returns-in_err-value c = rw c.from_residual-in_err-value.ensures (search (operator_none, c.in_ok-from.was, c.in_err-value.was))
+pub read_value-requires-clause-place : goal.read_value-requires-clause-place
+read_value-requires-clause-place g c = search (next_within, c.in_ok-from.was)
 
 pub returns : goal.returns
-returns c = search (operator_found, c.in_ok-from.was, c.in_ok-value.was)
+returns g c = λ f p. operator_found _ f _ _ c.expect_and_skip.ensures _ _ c.in_ok-from.was (c.read_value.ensures f p)

@@ -1,7 +1,6 @@
 -- `tl::tl_attributes` meets its contract: what the call answers, in numbers.
-use mathlib.Core.Path.{ap, ◌∙◌}
-use Rattle.rules.specs.Refusals.{counted_numbers}
+use Rattle.tl.proofs.Left.{exported}
 use Rattle.tl.proofs.tl_attributes.Goals as goal
 
 pub returns : goal.returns
-returns c = record { is = c.counted.ensures ∙ ap counted_numbers c.attributes.ensures.is; left = c.attributes.ensures.left }
+returns c = exported c.attributes.ensures.is c.attributes.ensures.left c.leave.ensures.ok c.leave.ensures.err

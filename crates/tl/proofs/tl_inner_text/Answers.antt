@@ -1,7 +1,6 @@
 -- `tl::tl_inner_text` meets its contract: what the call answers, in numbers.
-use mathlib.Core.Path.{ap, ◌∙◌}
-use Rattle.rules.specs.Refusals.{counted_numbers}
+use Rattle.tl.proofs.Left.{exported}
 use Rattle.tl.proofs.tl_inner_text.Goals as goal
 
 pub returns : goal.returns
-returns c = record { is = c.counted.ensures ∙ ap counted_numbers c.inner_text.ensures.is; left = c.inner_text.ensures.left }
+returns c = exported c.inner_text.ensures.is c.inner_text.ensures.left c.leave.ensures.ok c.leave.ensures.err

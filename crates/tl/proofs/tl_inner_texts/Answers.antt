@@ -1,11 +1,7 @@
 -- `tl::tl_inner_texts` meets its contract: what the call answers, in numbers.
-use mathlib.Core.Path.{ap, ◌∙◌}
-use Rattle.rules.specs.Refusals.{counted_numbers}
+use Rattle.tl.proofs.Left.{counted}
 use Rattle.tl.proofs.tl_inner_texts.Goals as goal
 
 pub returns : goal.returns
-returns c = record {
-  is = c.counted.ensures ∙ ap counted_numbers c.inner_texts.ensures.is;
-  ends_left = c.inner_texts.ensures.ends_left;
-  out_left = c.inner_texts.ensures.out_left;
-}
+returns c = let e = c.inner_texts.ensures in
+    record { is = counted e.is c.leave.ensures.ok c.leave.ensures.err; ends_left = e.ends_left; out_left = e.out_left }

@@ -1,7 +1,6 @@
 -- `tl::tl_query_selector_below` meets its contract: what the call answers, in numbers.
-use mathlib.Core.Path.{ap, ◌∙◌}
-use Rattle.rules.specs.Refusals.{counted_numbers}
+use Rattle.tl.proofs.Left.{exported}
 use Rattle.tl.proofs.tl_query_selector_below.Goals as goal
 
 pub returns : goal.returns
-returns c = record { is = c.counted.ensures ∙ ap counted_numbers c.query_selector_below.ensures.is; left = c.query_selector_below.ensures.left }
+returns c = exported c.query_selector_below.ensures.is c.query_selector_below.ensures.left c.leave.ensures.ok c.leave.ensures.err

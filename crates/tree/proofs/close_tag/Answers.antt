@@ -15,9 +15,6 @@ returns-then-inner-eq0 c = let a = c.args in
 some : (c : Else-inner-eq0) → 0 < c.args.s.inner
 some c = omega (arith, c.if-inner-eq0.false)
 
-pub has_name-requires : goal.has_name-requires
-has_name-requires c = let pre = c.requires in (rw c.row_at-n.ensures (pre.1.name (some (goal.at.has_name-requires c).Else-inner-eq0)), pre.2.0)
-
 pub returns-then-has_name : goal.returns-then-has_name
 returns-then-has_name c = let a = c.args in
     step_done refl

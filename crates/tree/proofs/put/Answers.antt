@@ -1,25 +1,10 @@
 -- `tree::put` meets its contract: by the item.
 use Rattle.std.proofs.Common.{Some}
 use mathlib.Core.Path.{sym, ap}
-use native.Mathlib.Omega.{arith}
 use Rattle.rules.specs.Names.{is_void}
 use Rattle.rules.specs.Reader.{put}
 use Rattle.tree.proofs.Steps.{held_moved, held_version, step_as, step_done}
 use Rattle.tree.proofs.put.Goals as goal
-
-pub put_leaf-requires : goal.put_leaf-requires
-put_leaf-requires c = let pre = c.requires in
-    let f = rw c.in-Text.is at pre.2 in (pre.0, (f.0, omega (arith, f.1, pre.3)))
-
-pub close_tag-requires : goal.close_tag-requires
-close_tag-requires c = let pre = c.requires in (pre.0, pre.1, rw c.in-Close.is at pre.2, pre.3)
-
-pub put_leaf-requires-in-Comment : goal.put_leaf-requires-in-Comment
-put_leaf-requires-in-Comment c = let pre = c.requires in
-    let f = rw c.in-Comment.is at pre.2 in (pre.0, (f.0.0, omega (arith, f.0.1, pre.3)))
-
-pub put_tag-requires : goal.put_tag-requires
-put_tag-requires c = let pre = c.requires in (pre.0, rw c.in-Tag.is at pre.2, pre.3)
 
 pub returns-in-Text : goal.returns-in-Text
 unfolding put

@@ -11,17 +11,18 @@ pub returns-then-shut : goal.returns-then-shut
 returns-then-shut c = let shut = c.if-shut.true in
     step_done (ap Some c.added.ensures)
     (λ t hd R H. held_tag H c.args.page.now _ (rw c.is_void_name.ensures at shut)
-    (rw (c.ended_new-ended.ensures, shut) at (c.register_tag.ensures.row c.if-not-register_tag.false)))
+    (rw (c.ended_new-ended.ensures, shut) at (c.register_tag.ensures.row c.in_ok-register_tag.was)))
 
 pub returns : goal.returns
 returns c = let opened = c.if-shut.false in
     step_done (ap Some c.added-2.ensures)
     (λ t hd R H. held_tag H c.args.page.now _ (rw c.is_void_name.ensures at opened)
-    (rw (c.ended_new-ended.ensures, opened) at (c.register_tag.ensures.row c.if-not-register_tag.false)))
+    (rw (c.ended_new-ended.ensures, opened) at (c.register_tag.ensures.row c.in_ok-register_tag.was)))
 
-pub returns-then-not-register_tag : goal.returns-then-not-register_tag
+pub returns-in_err-register_tag : goal.returns-in_err-register_tag
 unfolding put
-returns-then-not-register_tag c = let a = c.args in
-    step_full
+returns-in_err-register_tag c = let a = c.args in
+    rw c.from_residual.ensures
+    (step_full
     (λ t hd R H. full_next H (tag_node R a.a a.e a.next (a.slash || is_void (part a.page.now a.a a.e)))
-    (c.register_tag.ensures.full c.if-not-register_tag.true))
+    (c.register_tag.ensures.full c.in_err-register_tag.was)))

@@ -1,20 +1,13 @@
 -- `tree::settle` meets its contract: whatever tags were open at first, some of them are left.
 use borrow.Author.Rules.{rules}
-use mathlib.Core.Path.{refl}
 use native.Mathlib.Omega.{arith}
 use Rattle.tree.proofs.Settling.{Left, left_none, left_row, left_lower, left_more}
 use Rattle.tree.proofs.settle.Goals as goal
 use Rattle.tree.proofs.settle.Goals.{At-loop-p}
 
-pub loop-p-init : goal.loop-p-init
-loop-p-init c = record { size = refl; left = λ t hd ns hs S. record { ms = ns; ks = hs; rows = S; rest = refl } }
-
 -- what is left of the tags that the caller showed
 shown : (c : At-loop-p) → Left c.args.last c.loop-p.table c.requires.t c.requires.hd c.loop-p.p c.requires.ns c.requires.hs
 shown c = let X = c.requires in c.loop-p.invariant.left X.t X.hd X.ns X.hs X.rows
-
-pub overflow_cast-k : goal.overflow_cast-k
-overflow_cast-k c = omega (arith, left_row (shown (goal.at.overflow_cast-k c).At-loop-p) c.loop-p-test.true, c.loop-p.invariant.size)
 
 pub row_at-n-requires : goal.row_at-n-requires
 row_at-n-requires c = left_row (shown (goal.at.row_at-n-requires c).At-loop-p) c.loop-p-test.true

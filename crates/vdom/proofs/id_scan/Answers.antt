@@ -1,20 +1,15 @@
--- `vdom::id_scan` meets its contract: none of the handles below h has the id.
-use Rattle.std.proofs.Common.{refl, sym, ◌∙◌, arith}
-use Rattle.rules.specs.Lists.{from, only}
-use Rattle.vdom.proofs.Walk.{miss, first_hit}
+-- `vdom::id_scan` meets its contract: the search stops at the first handle whose node has the id.
+use Rattle.std.proofs.Common.{◌≡◌, true, false, rules}
+use Rattle.std.proofs.lemmas.Iterator.{first_from_Range}
+use borrow.Author.Tests.{tests}
+use Rattle.rules.specs.Finds.{has_id}
+use Rattle.scan.specs.Marks.{white_in}
+use Rattle.vdom.proofs.Walk.{search_first}
 use Rattle.vdom.proofs.id_scan.Goals as goal
 
-pub loop-h-init : goal.loop-h-init
-unfolding from only
-loop-h-init c = refl
-
-pub returns-then-has_id : goal.returns-then-has_id
-returns-then-has_id c =
-    let asked = rw c.row.ensures.node at c.has_id.ensures in
-    let found = first_hit _ 0 c.loop-h.h c.loop-h.h (omega arith) c.count-h-end.result c.loop-h-test.true (sym asked ∙ c.if-has_id.true) c.loop-h.invariant in
-    rw c.count-h-end.ensures.rows at found
-
-pub loop-h-preserved : goal.loop-h-preserved
-loop-h-preserved c =
-    let asked = rw c.row.ensures.node at c.has_id.ensures in
-    miss _ 0 c.loop-h.h c.loop-h.h (omega arith) (sym asked ∙ c.if-has_id.false) ∙ c.loop-h.invariant
+pub returns : goal.returns
+returns c =
+    let f = has_id (white_in c.args.t.now) c.args.d.now.page.now c.args.d.now.table.now c.args.name.now in
+    let found = first_from_Range _ _ _ c.find.result (λ h. f h ≡ true) (λ h. f h ≡ false) c.find.ensures.ran
+    (λ x q k. search (rules, tests)) (λ x q k. search (rules, tests)) in
+    rw c.count.ensures.rows at (search_first f _ _ found)

@@ -1,10 +1,8 @@
 -- `words::gap` meets its contract: past the end there is no separator.
-use mathlib.Core.Path.{refl}
 use native.Mathlib.Omega.{arith}
 use Rattle.words.specs.Separators.{separators}
-use Rattle.words.proofs.Gaps.{gap_in}
+use Rattle.words.proofs.Gaps.{past_end}
 use Rattle.words.proofs.gap.Goals as goal
 
-pub returns-in-None : goal.returns-in-None
-returns-in-None c = let a = c.args in
-    let past = c.in-None.ensures.lookup.0 in omega (arith, past, gap_in (separators a.unicode) a.v.now a.i _ refl)
+pub returns-in_err-get : goal.returns-in_err-get
+returns-in_err-get c = rw c.from_residual.ensures (past_end (separators c.args.white) c.args.v.now c.args.i (omega (arith, c.in_err-get.ensures.lookup)))

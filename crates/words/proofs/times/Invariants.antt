@@ -12,7 +12,7 @@ invariant-loop-i l =
     (l.start ≤ l.i)
     × (l.i ≤ length l.v)
     × (l.n ≤ l.i)
-    × (times l.k (words (separators l.unicode) l.v) ≡ l.n + times l.k (words_from (separators l.unicode) (part l.v l.start l.i) zero (drop l.i l.v)))
+    × (times l.k (words (separators l.white) l.v) ≡ l.n + times l.k (words_from (separators l.white) (part l.v l.start l.i) zero (drop l.i l.v)))
 
 abbrev pub decreases-loop-i : goal.decreases-loop-i
 decreases-loop-i l = length l.v - l.i

@@ -3,4 +3,4 @@ use Rattle.replay.proofs.Writing.{prints}
 use Rattle.replay.proofs.Document.query.Goals as goal
 
 pub returns : goal.returns
-returns c = prints c.tl_query_selector-number.ensures c.put_list.ensures
+returns c = prints c.tl_query_selector-number.ensures c.put_line.ensures

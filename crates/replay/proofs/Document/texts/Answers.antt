@@ -5,5 +5,5 @@ use Rattle.replay.proofs.Document.texts.Goals as goal
 
 pub returns : goal.returns
 returns c =
-    let values = then c.put_field.ensures (then c.put_field-2.ensures (then c.put_fields.ensures c.put_fields-2.ensures)) in
+    let values = then c.put_fields.ensures (then c.put_fields-2.ensures c.put_fields-3.ensures) in
     prints_both c.tl_inner_texts-number.ensures (then c.put.ensures (then values c.put_byte.ensures))
