@@ -18,7 +18,7 @@ use scan::Marks;
 use tag::Tag;
 
 // What the slot of several names holds, and of one whose number is too large for a byte. A slot is a byte and no enum, so that the 256
-// of them are cleared and looked up fast.
+// of them are cleared and looked up fast; they are said as 256, as the promise of a slot's number does.
 const MANY: u8 = 255;
 
 // The longest opening that is looked through for what all names begin with before it is read.
@@ -26,7 +26,7 @@ const SHORT: usize = 16;
 
 // ---- the words of one name: three, said as 3, as the promises do
 
-// Writes which of the three held, and where a value starts and ends.
+// Writes which of the three held, and where a value starts and ends, into three words that are lent alone; batch writes from a place on.
 pub fn write_held(words: &mut [u32], held: Held)
     requires { (length words.old ≡ 3) × Inside page_limit held }
     ensures { words.new ≡ held_numbers held }
@@ -35,7 +35,8 @@ pub fn write_held(words: &mut [u32], held: Held)
     words.copy_from_slice(&[which as u32, start as u32, end as u32]);
 }
 
-// The attribute a was read: if it has the name, its value may count. Of `id` and `class` the last counts, of other names the first.
+// The attribute a was read: if it has the name, its value may count. Of `id` and `class` the last counts, of other names the first. That a
+// lies in the page is asked for, since it is places alone.
 fn note(words: &mut [u32], page: &[u8], a: Attribute, name: &[u8])
     requires { (length words.old ≡ 3) × Placed (length page.now) a }
     ensures { Notes page.now a name.now words.old words.new }
@@ -140,7 +141,7 @@ fn slot_with(c: u8, j: usize) -> u8
     (j + 1) as u8
 }
 
-// Fills the slots of all names, which are lent all zero. A table that is returned would be copied.
+// Fills the slots of all names, which are lent all zero: a `Slots` is made of both once they are filled. A table that is returned would be copied.
 pub fn fill_slots(slots: &mut [u8; 256], names: &Names)
     requires { slots.old ≡ replicate 256 0 }
     ensures { Slotted names.now.text.now names.now.ends.now (length names.now.ends.now) slots.new }
@@ -212,7 +213,8 @@ pub fn may_have_any(tag: &Tag, first: &[u8]) -> bool
     SHORT < tag.room() || tag.may_have(first)
 }
 
-// What the tag holds for each name, into words that are lent all zero. The names all begin with `first`.
+// What the tag holds for each name, into words that are lent all zero. The names all begin with `first`. The page is within the limit, so that
+// each place fits a word; a tag alone does not say so.
 pub fn attributes(t: &Marks, slots: &Slots, tag: &Tag, first: &[u8], out: &mut [u32])
     requires inside { length tag.now.page.now ≤ page_limit }
     requires alike { Alike slots.now.names.text.now slots.now.names.ends.now first.now }

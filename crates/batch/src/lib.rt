@@ -1,4 +1,5 @@
-// The calls on a list of handles: one test of page, table and handles, then the single call's answer for each handle, in order.
+// The calls on a list of handles: one test of page, table and handles, then the single call's answer for each handle, in order. Page and table,
+// names and ends come as two slices each, as the C interface lends them.
 
 #![tactic(auto)]
 
@@ -57,9 +58,10 @@ fn check_tags<'a>(page: &'a [u8], table: &'a [u32], handles: &'a [u32]) -> Resul
     Err(Refusal::NotATag)
 }
 
-// ---- attributes
+// ---- attributes: here and below a call refuses by a `match`, since `?` would leave the buffer that it was lent as it was
 
-// Writes the three words from `at` on, and answers the place after them. A struct of buffer and place would serve these two functions.
+// Writes the three words from `at` on, and answers the place after them: it cuts out what `write_held` asks for. A struct of buffer and
+// place would serve this and `put_attributes` alone.
 fn put_held(held: Held, out: &mut [u32], at: usize) -> usize
     requires { Inside page_limit held × (at + 3 ≤ length out.old) }
     ensures { Wrote out.old at (held_numbers held) out.new result }
@@ -281,7 +283,7 @@ fn lowest_text(d: &Document, from: usize, to: usize, next: usize) -> usize
         .unwrap_or(next)
 }
 
-// Fills the table of skips, from the last row down.
+// Fills the table of skips, from the last row down. Table and step go as two, since a `Skips` is made of them once the table is filled.
 fn fill_skips(d: &Document, step: usize, skip: &mut [u32])
     requires { Covers (count_of d.now.table.now) step (length skip.old) }
     ensures { PassesNoText d.now.page.now d.now.table.now step skip.new }
@@ -296,7 +298,8 @@ fn fill_skips(d: &Document, step: usize, skip: &mut [u32])
     }
 }
 
-// Writes the inner text of h from `at` on.
+// Writes the inner text of h from `at` on. Buffer and place go as two, as in `tag::copy`: there must be room for each text, and h is a number, as
+// the call was given it.
 fn put_text(s: &Skips, h: usize, out: &mut [u8], at: usize) -> Option<usize>
     requires { (h < count_of s.now.tags.document.table.now) × (at ≤ length out.old) }
     ensures { let d = s.now.tags.document in
@@ -340,7 +343,7 @@ fn put_texts(s: &Skips, ends: &mut [usize], out: &mut [u8]) -> Result<usize, Ref
     Ok(handles.len())
 }
 
-// The same, with a table of skips that is filled first.
+// The same, with a table of skips that is filled first: only then are table and step a `Skips`.
 fn skip_texts(
     tags: &Tags,
     next: &mut [u32],

@@ -1,4 +1,5 @@
-// The public calls: each answers for every page, table, handle, name and buffer, and refuses in the order of the numbers.
+// The public calls: each answers for every page, table, handle, name and buffer, and refuses in the order of the numbers. Page and table come
+// as two slices, and a handle as a number, as the C interface lends them; the checks make a document of the first two.
 
 #![tactic(auto)]
 
@@ -48,7 +49,7 @@ fn check_tag<'a>(page: &'a [u8], table: &'a [u32], h: usize) -> Result<Document<
     Err(Refusal::NotATag)
 }
 
-// ---- the calls: one that writes clears its buffer where it refuses, by a `match`, since `?` would leave the buffer as it was
+// ---- the calls: here and below one that writes clears its buffer where it refuses, by a `match`, since `?` would leave it as it was
 
 // The handles below a tag.
 #[tactic(auto, unfolding(rules::specs::Answers::range_answer))]
@@ -172,7 +173,7 @@ pub fn get_elements_by_class_name(
 
 // ---- queries
 
-// The finds of a selector among these handles, or refusals 5, 6 and 7.
+// The finds of a selector among these handles, or refusals 5, 6 and 7. A `Range` knows no document, so that it is said to be of this one.
 fn select(d: &Document, handles: Range<usize>, s: &[u8], out: &mut [u32]) -> Result<usize, Refusal>
     requires { (handles.start ≤ handles.end) × (handles.end ≤ count_of d.now.table.now) }
     ensures { let finds = among d.now.page.now d.now.table.now s.now (from handles.start (handles.end - handles.start)) in

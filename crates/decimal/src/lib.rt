@@ -7,6 +7,7 @@ ghost use Rattle.std.specs.Str.{all_ascii_digits};
 ghost use Rattle.rules.specs.Scan.{skip};
 ghost use Rattle.decimal.specs.Digits.{is_digit, number_of, number_at};
 
+// std's test as a function, which promises what the rules call a digit.
 fn is_digit(b: u8) -> bool
     ensures { result ≡ is_digit b }
 {
@@ -20,7 +21,7 @@ fn skip_digits(s: &[u8], at: usize) -> usize
     scan::skip_while(s, at, is_digit)
 }
 
-// The number that 1 to 10 digits say, if it is below 2^32.
+// The number that 1 to 10 digits say, if it is below 2^32. std reads them; that more than 10 say none, leading zeros or not, is ours.
 fn number_of(digits: &[u8]) -> Option<u32>
     requires { all_ascii_digits digits.now ≡ true }
     ensures { result ≡ number_of digits.now }

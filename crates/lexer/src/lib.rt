@@ -44,6 +44,7 @@ fn parse_value(t: &Marks, s: &[u8], eq: usize) -> Option<(usize, usize)>
 }
 
 // The attribute whose name starts at the place. Inlined into each loop over attributes: a tag of many short ones is read a quarter faster.
+// The end by a `match`: by `map_or` it was tried, and the proof did not close.
 #[inline(always)]
 pub fn parse_attribute(t: &Marks, s: &[u8], at: usize) -> Attribute
     ensures { result ≡ attribute_at (white_in t.now) s.now at }
@@ -72,8 +73,8 @@ pub fn starts_attribute(t: &Marks, s: &[u8], at: usize) -> bool
     scan::current_cpy(s, at).is_some_and(|b| !t.is_closing(b))
 }
 
-// Where the attributes from a place on end: at a `/` or `>`, or at the end of the page. An index, since a step is an attribute long:
-// the next place is the place after it. Never inlined, so that a tag without attributes need not free the registers that the loop takes.
+// Where the attributes from a place on end: at a `/` or `>`, or at the end of the page. There is no index to count, since a step is an attribute
+// long. Never inlined, so that a tag without attributes need not free the registers that the loop takes.
 #[inline(never)]
 fn skip_attributes(t: &Marks, s: &[u8], from: usize) -> usize
     requires { from ≤ length s.now }

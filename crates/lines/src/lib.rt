@@ -57,7 +57,7 @@ impl<'a> Writer<'a> {
         self.put(digits.format(n).as_bytes());
     }
 
-    // A space and a word; `put_field` is the same for a number.
+    // A space and a word. `put_field` is the same for a number: they share one line, and differ in the other.
     pub fn put_word(&mut self, word: &[u8])
         ensures { Puts self.old (field word.now) self.new }
     {
@@ -73,7 +73,7 @@ impl<'a> Writer<'a> {
         self.put_number(n);
     }
 
-    // Each number after a space.
+    // Each number after a space. `put` is the same loop over bytes: one line, with another call in it.
     pub fn put_fields<I: Integer>(&mut self, numbers: &[I])
         ensures { Puts self.old (flat_map (λ n. field (I.text n)) numbers.now) self.new }
     {
@@ -82,7 +82,7 @@ impl<'a> Writer<'a> {
         }
     }
 
-    // ---- the lines
+    // ---- the lines: page and node go as two, since a node is words alone, and holds no page
 
     fn put_parent(&mut self, n: Node)
         ensures { Puts self.old (field (parent_name n.parent)) self.new }
@@ -193,7 +193,7 @@ pub fn refused(x: Refusal, out: &mut [u8]) -> Result<usize, Refusal>
     writer.finish()
 }
 
-// What is printed where reading the page into the table answered `read`.
+// What is printed where reading the page into the table answered `read`. The table makes a document only where it was read.
 pub fn answer(
     page: &[u8],
     table: &[u32],

@@ -8,7 +8,7 @@ use rules::{PAGE_LIMIT, Refusal};
 use std::io;
 use std::io::Print;
 
-// Reads the page into the table, and writes what is printed of it into `out`.
+// Reads the page into the table, and writes what is printed of it into `out`. Page and table go as two: the table is written here.
 fn list(page: &[u8], table: &mut [u32], out: &mut [u8]) -> Result<usize, Refusal>
     ensures { Lists page.now table.old out.old table.new out.new result }
 {

@@ -146,6 +146,7 @@ impl Candidate<'_, '_> {
 }
 
 // ---- a node of a page: only a tag has an id and classes. Each of the three begins with that test, and answers otherwise where it fails.
+// Page and node go as two, since the node may be no tag.
 
 // The node is a tag with that id.
 pub fn has_id(t: &Marks, page: &[u8], n: Node, name: &[u8]) -> bool

@@ -1,4 +1,5 @@
-// Reading a page (parser/base): the items of a page of bytes, one after the other, into a lent table of words.
+// Reading a page (parser/base): the items of a page of bytes, one after the other, into a lent table of words. The table is being
+// written, and makes no document with the page before the end.
 
 #![tactic(auto)]
 
@@ -13,7 +14,7 @@ use rules::{PAGE_LIMIT, Refusal, State};
 use scan::Marks;
 
 // Up to `budget` steps of the reader from a state on. It stops early at the end of the page, and where there is no room for a row. The
-// steps are counted because the rules count them (`steps`).
+// steps are counted because the rules count them (`steps`). The page is within the limit, which `parse` tests.
 fn parse_single(
     table: &mut [u32],
     t: &Marks,

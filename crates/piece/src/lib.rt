@@ -1,4 +1,5 @@
-// The written form of a piece: six words, written and read back.
+// The written form of a piece: six words, written and read back. A kind is a number here, from 1 to 10, since C reads the written
+// selector as words.
 
 #![tactic(auto)]
 
@@ -103,7 +104,7 @@ pub struct Chain<'a> {
 }
 
 impl<'a> Chain<'a> {
-    // Piece i.
+    // Piece i. The reading back stands apart, beside the writing, since both are over words alone.
     pub fn piece(&self, i: usize) -> Piece
         requires { i < self.now.pieces }
         ensures { result ≡ piece_at self.now.words.now i }

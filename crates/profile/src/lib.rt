@@ -66,7 +66,7 @@ pub fn tl() -> [u8; SIZE]
     TL
 }
 
-// The longest page that is read.
+// The longest page that is read: of any bytes, since the test of a profile asks it first, and of a profile by the method.
 #[tactic(auto, unfolding(rules::specs::Profile::limit_of))]
 pub fn limit(bytes: &[u8; SIZE]) -> usize
     ensures { result ≡ limit_of bytes.now }
@@ -280,7 +280,8 @@ fn slot(first: u8, last: u8, n: usize) -> usize
 }
 
 // Names by their slots: for each slot the last name that has it; for each name the one before it of its slot, and its length. A slot
-// and a link hold the number of a name plus 1, or 0: as `Option<u8>` there would be twice as much to clear.
+// and a link hold the number of a name plus 1, or 0: as `Option<u8>` there would be twice as much to clear. Links and lengths are two
+// arrays, as the promise follows the links alone.
 #[derive(Drop)]
 struct Heads {
     first: [u8; SLOTS],

@@ -1,5 +1,5 @@
 // The selector reader (stream, queryselector/parser): the chain of pieces that a selector is, written into lent words.
-// `t` is the lent table of marks.
+// `t` is the lent table of marks. The functions under the stream take a slice and a place in it, `s` and `at`, as those of `selector` do.
 
 #![tactic(auto)]
 
@@ -113,7 +113,7 @@ pub fn read(t: &Marks, s: &[u8], words: &mut [u32; ROOM]) -> Result<usize, Refus
     parse_selector(t, s, words).ok_or(Refusal::SelectorNotRead)
 }
 
-// How many pieces the selector has; their words are the first of `out`.
+// How many pieces the selector has; their words are the first of `out`. By a `match`: `?` would leave `out` as it was, where a refusal clears it.
 pub fn parse_query_selector(s: &[u8], out: &mut [u32]) -> Result<usize, Refusal>
     ensures { Answered s.now out.old out.new result }
 {

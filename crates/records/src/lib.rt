@@ -57,7 +57,8 @@ impl Number for usize {
 
 // ---- reading a record
 
-// The number at the place, with the byte q after it, and the place after both.
+// The number at the place, with the byte q after it, and the place after both. Not by `then_some`, which would make the place before the test
+// that a byte stands there.
 #[tactic(auto, unfolding(crate::specs::Records::number_before))]
 fn number_before(s: &[u8], at: usize, q: u8) -> Option<(u32, usize)>
     ensures { result ≡ number_before q s.now at }

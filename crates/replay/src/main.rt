@@ -171,6 +171,7 @@ impl Document<'_> {
         records::put_line(out, b"attributes", &[number as usize, count], words);
     }
 
+    // Names and ends go as two slices, as the call takes them.
     fn names(
         &self,
         handles: &[u32],
@@ -213,7 +214,7 @@ impl Document<'_> {
     }
 }
 
-// ---- the questions that are not about a page and its table, or change the table
+// ---- the questions that are not about a page and its table, or change the table: alike but for the call, as the methods above
 
 fn parse(page: &[u8], table: &mut [u32], out: &mut Writer)
     ensures { let p = page.now in

@@ -1,5 +1,5 @@
-// One simple selector (queryselector/parser): read at a place of a selector's bytes. `t` is the lent table of marks. As in the page reader
-// a slice and a place go as they are.
+// One simple selector (queryselector/parser): read at a place of a selector's bytes. `t` is the lent table of marks. A slice and a
+// place go as they are: the paper asks for a stream of few thin functions, which `queryselector` has, over functions such as these.
 
 #![tactic(auto)]
 

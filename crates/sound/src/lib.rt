@@ -10,7 +10,8 @@ ghost use Rattle.sound.specs.Document.{Places};
 
 use rules::{Ended, HTML5, Kind, Node};
 
-// The rows of a table that has room for them, beside a page of `len` bytes.
+// The rows of a table that has room for them, beside a page of `len` bytes. A row goes by its number, below the count: so the test walks them,
+// before anything is known of what they say.
 #[derive(Clone, Copy)]
 struct TableRows<'a> {
     table: &'a [u32],
@@ -20,6 +21,7 @@ struct TableRows<'a> {
 }
 
 impl<'a> TableRows<'a> {
+    // The node of row h, as `Document::row` gives it: before the test nothing more is known of it.
     fn row(&self, h: usize) -> Node
         requires { h < self.now.count }
         ensures { result ≡ node_at self.now.table.now h }

@@ -53,7 +53,7 @@ fn tag_numbers(tag: Option<usize>) -> [usize; 2]
     }
 }
 
-// ---- the calls
+// ---- the calls: each is exported under its own name and arguments. Page and table, names and ends are two slices each, as C lends them.
 
 // Reads a page into a table.
 pub fn tl_parse(page: &[u8], table: &mut [u32], count: &mut usize) -> u32

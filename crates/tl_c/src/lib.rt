@@ -1,5 +1,6 @@
 // The library for C and Rust programs: its exports. Each is the call of the crate tl that has its name, with that call's
-// promise: a crate is a library or a static library, so that they stand in both. include/tl.h declares them.
+// promise: a crate is a library or a static library, so that they stand in both. include/tl.h declares them. Page and table, names
+// and ends are two slices each, as C lends them.
 
 #![tactic(auto)]
 

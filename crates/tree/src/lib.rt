@@ -13,6 +13,9 @@ ghost use Rattle.tree.specs.Held.{Step, Room, Inner, Within, Fits, Registered, m
 
 use rules::{Ended, HTML5, Item, Kind, Node, State};
 
+// ---- page and table go as two: the table is being written, and is no document before the end. The page is within the limit, as the reading
+// has tested, so that each place fits a word; each function says so for itself, since a page is a slice.
+
 // ---- the state: a value beside the lent table, and no struct with it, since a step without room leaves no state
 
 // The state at another place.
@@ -44,7 +47,7 @@ fn set_version(s: State, html: bool, at: usize) -> State
     State { at, version, ..s }
 }
 
-// ---- rows
+// ---- rows: kind and ending go as the words that they are in the table, which C reads
 
 // Writes a new row, if there is room for it.
 fn register_tag(table: &mut [u32], h: usize, n: Node) -> Option<()>
@@ -156,7 +159,7 @@ fn put_tag(
     Some(added(s, next, h as u32 + 1))
 }
 
-// Whether a tag's row has the closing name from a to e.
+// Whether a tag's row has the closing name from a to e. Page and node go as two: a node is words alone, and holds no page.
 fn has_name(page: &[u8], n: Node, a: usize, e: usize) -> bool
     requires { Within (length page.now) n.name n.stop × Within (length page.now) a e }
     ensures { result ≡ same (part page.now n.name n.stop) (part page.now a e) }

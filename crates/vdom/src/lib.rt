@@ -22,8 +22,8 @@ use scan::Marks;
 use sound::Document;
 use std::ops::Range;
 
-// The walk over handles, a range of the document's, as the two functions that call it ask of their callers too: writes those whose node
-// passes the test into out, in order, or clears out where it has no room.
+// The walk over handles, a range of the document's: `query` and its caller ask for that too, since a `Range` knows no document. It writes those
+// whose node passes the test into out, in order, or clears out where it has no room.
 fn find_all<F: Fn(Node) -> bool>(
     d: &Document,
     handles: Range<usize>,
@@ -49,7 +49,7 @@ fn find_all<F: Fn(Node) -> bool>(
     Ok(n)
 }
 
-// get_element_by_id: the lowest handle. Marks, document and name go as they are, here and below: they are handed to nothing else.
+// get_element_by_id: the lowest handle. Marks, document and name go as they are, here and below: a struct of them would be handed to nothing.
 pub fn id_scan(t: &Marks, d: &Document, name: &[u8]) -> Option<usize>
     ensures { result ≡ first_found (by_id (white_in t.now) d.now.page.now d.now.table.now Manner.Scan name.now) }
 {

@@ -61,7 +61,7 @@ fn separator(v: &[u8], white: White) -> Option<usize>
     }
 }
 
-// The length of the separator at a place.
+// The length of the separator at a place: what is left from there on is the front that `separator` looks at.
 pub fn gap(v: &[u8], i: usize, white: White) -> Option<usize>
     ensures { result ≡ separator_of (separators white) (drop i v.now) }
 {
