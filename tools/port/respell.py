@@ -89,7 +89,8 @@ def turn_edits(rows):
         out = []
         for line in old.splitlines(keepends=True):
             if line.startswith(("old:", "new:", "#")):
-                line = WORD.sub(lambda m: rows.get(m.group(0), m.group(0)) if not re.search(r"[-]", m.group(0)) or not line.startswith("#") else m.group(0), line)
+                keeps = line.startswith("#")  # a comment keeps words with a hyphen
+                line = WORD.sub(lambda m: m.group(0) if keeps and "-" in m.group(0) else rows.get(m.group(0), m.group(0)), line)
             out.append(line)
         new = "".join(out)
         if new != old:

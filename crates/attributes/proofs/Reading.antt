@@ -23,7 +23,11 @@ inside_page n None l i = tt
 inside_page n (Some (a, e)) l i = (i.0, omega (arith, i.1))
 
 module _ (white : ℕ → Bool) (p : List ℕ) where
-  pub placed : (i : ℕ) {a : Attribute} → from white p i ≡ a ∷ from white p a.next → InPage (length p) a → length p ≤ page_limit → Placed (length p) a
+  -- a is the first attribute from i on
+  abbrev pub First : ℕ → Attribute → Type 0
+  First i a = from white p i ≡ a ∷ from white p a.next
+
+  pub placed : (i : ℕ) {a : Attribute} → First i a → InPage (length p) a → length p ≤ page_limit → Placed (length p) a
   placed i {a} cut in_page l =
       let all : AllInside white p (a ∷ from white p a.next) = rw cut at (attributes_inside white p (length p) i) in
       record { name = in_page.name; stop = in_page.stop; value = inside_page (length p) a.value l all.0 }
@@ -48,7 +52,7 @@ module _ (white : ℕ → Bool) (p : List ℕ) where
         }
 
     module _ {i : ℕ} {w : List ℕ} (r : Reading i w) where
-      pub reading_more : {a : Attribute} → from white p i ≡ a ∷ from white p a.next → InPage (length p) a → {w₁ : List ℕ} → length w₁ ≡ length w
+      pub reading_more : {a : Attribute} → First i a → InPage (length p) a → {w₁ : List ℕ} → length w₁ ≡ length w
           → NotesAll p a s es w w₁ → Reading a.next w₁
       reading_more {a} cut in_page {w₁} m notes =
           record {

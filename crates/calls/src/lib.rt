@@ -11,7 +11,8 @@ ghost use Rattle.rules.specs.Sound.{count_of};
 ghost use Rattle.rules.specs.Text.{inner_text};
 ghost use Rattle.rules.specs.Finds.{by_class};
 ghost use Rattle.rules.specs.Lookup.{Inside};
-ghost use Rattle.rules.specs.Answers.{range_answer, text_answer, text_buffer, attribute_answer, attribute_part, id_answer, class_answer, class_buffer, query_answer, query_buffer, query_below_answer, query_below_buffer};
+ghost use Rattle.rules.specs.Answers.{range_answer, text_answer, text_buffer, attribute_answer, attribute_part, id_answer, class_answer};
+ghost use Rattle.rules.specs.Answers.{class_buffer, query_answer, query_buffer, query_below_answer, query_below_buffer};
 ghost use Rattle.calls.specs.Calls.{Filled, Selects, told, among};
 
 use piece::Chain;

@@ -16,7 +16,8 @@ use Rattle.rules.specs.Scan.{pick, span, skip, here, pass, part}
 use Rattle.rules.specs.Attributes.{attributes_end}
 use Rattle.rules.specs.declared.Item.{Item}
 use Rattle.rules.specs.declared.Item.TheVariants.{Text, Close, Comment, Doctype, Tag, Nothing}
-use Rattle.rules.specs.Lexer.{next, is_tag, comment_end, comment_to, item_at, markup, closing, tag, tag_from, tag_to, bang, declaration_from, doctype_from, same_lower, doctype_name}
+use Rattle.rules.specs.Lexer.{next, is_tag, comment_end, comment_to, item_at, markup, closing, tag, tag_from, tag_to, bang, declaration_from}
+use Rattle.rules.specs.Lexer.{doctype_from, same_lower, doctype_name}
 use Rattle.laws.proofs.Cut.{Scans, skip_scans, pass_scans, then_scans, cut_at, here_cut, here_end, length_cut, end_cut, end_grows, drop_take}
 use Rattle.rules.proofs.Pick.{cases}
 use Rattle.rules.proofs.Places.{here_below}

@@ -15,7 +15,8 @@ use Rattle.rules.specs.declared.Item.{Item}
 use Rattle.rules.specs.declared.Item.TheVariants.{Text, Close, Comment, Doctype, Tag, Nothing}
 use Rattle.rules.specs.Lexer.{item_at}
 use Rattle.rules.specs.declared.Node.{Node}
-use Rattle.rules.specs.Reader.{node, Reading, no_node, parent_of, leaf, tag_node, closed, settled, ended_by, close_into, put, step, steps, begin, with_last, read}
+use Rattle.rules.specs.Reader.{node, Reading, no_node, parent_of, leaf, tag_node, closed, settled, ended_by, close_into, put, step, steps, begin}
+use Rattle.rules.specs.Reader.{with_last, read}
 use Rattle.rules.proofs.Pick.{cases}
 use Rattle.laws.proofs.Nodes.{set_all, ext_last}
 use Rattle.laws.proofs.Nested.{Nested, Under, child, deeper, under_same, nested_cong, nested_add, range_under, under_range}

@@ -431,8 +431,9 @@ fn main(rt: HostRuntime) -> io::Result<()> {
         words: &mut words,
         out: &mut out,
     };
-    match replay(&rt, &input[..n], &mut buffers)? {
-        Some(count) => println!(rt; "records {count}"),
-        None => rt.write_all(b"bad record\n"),
+    // A line that could not be written is told as a bad record is.
+    match replay(&rt, &input[..n], &mut buffers) {
+        Ok(Some(count)) => println!(rt; "records {count}"),
+        Ok(None) | Err(_) => rt.write_all(b"bad record\n"),
     }
 }

@@ -4,7 +4,8 @@ use mathlib.Core.Path.{◌≡◌, refl}
 use mathlib.Core.List.{List, [], ◌∷◌, ◌++◌}
 use lib.ListN.{replicate}
 use Rattle.rules.specs.Ascii.{bytes}
-use Rattle.rules.specs.Questions.{Example, example, answers, said, tag_row, text_row, range, text, attribute, id, class, query, query_below, rows, version, parse, own, foreign, selector}
+use Rattle.rules.specs.Questions.{Example, example, answers, said, tag_row, text_row, range, text, attribute, id, class, query, query_below, rows}
+use Rattle.rules.specs.Questions.{version, parse, own, foreign, selector}
 use Rattle.rules.specs.declared.Manner.TheVariants.{Scan, Closed}
 use Rattle.rules.specs.Scan.{span, agree}
 use Rattle.rules.specs.Lists.{from, only, each}
@@ -19,7 +20,9 @@ use Rattle.rules.specs.Words.{gap, words_from, times, contains}
 use Rattle.rules.specs.Selector.{operand_at, attribute_from, simple_at}
 use Rattle.rules.specs.Chain.{selector_at, chain_at, written}
 use Rattle.rules.specs.Query.{meaning}
-use Rattle.rules.specs.Answers.{parse_answer, parse_table, range_answer, text_answer, text_buffer, attribute_answer, attribute_part, id_answer, class_answer, class_buffer, selector_answer, selector_buffer, query_answer, query_buffer, query_below_answer, query_below_buffer}
+use Rattle.rules.specs.Answers.{parse_answer, parse_table, range_answer, text_answer, text_buffer, attribute_answer, attribute_part, id_answer}
+use Rattle.rules.specs.Answers.{class_answer, class_buffer, selector_answer, selector_buffer, query_answer, query_buffer, query_below_answer}
+use Rattle.rules.specs.Answers.{query_below_buffer}
 
 -- two tags with equal ends above word 5, the second below the first, in a table that no reading makes
 abbrev twins : List ℕ

@@ -15,7 +15,8 @@ use Rattle.rules.specs.Words.{gap, words_from, times, contains}
 use Rattle.rules.specs.Selector.{operand_at, attribute_from, simple_at}
 use Rattle.rules.specs.Chain.{selector_at, chain_at, written}
 use Rattle.rules.specs.Query.{meaning}
-use Rattle.rules.specs.Answers.{parse_answer, parse_table, range_answer, attribute_answer, attribute_part, id_answer, selector_answer, selector_buffer, query_answer, query_buffer}
+use Rattle.rules.specs.Answers.{parse_answer, parse_table, range_answer, attribute_answer, attribute_part, id_answer, selector_answer}
+use Rattle.rules.specs.Answers.{selector_buffer, query_answer, query_buffer}
 
 -- the rules answer what the examples say
 checked_pages : answers pages ≡ said pages

@@ -11,7 +11,8 @@ use Rattle.rules.specs.Finds.{handles, valued}
 use Rattle.rules.specs.declared.Node.{Node}
 use Rattle.rules.specs.declared.Span.{Span}
 use Rattle.rules.specs.declared.Simple.{Simple}
-use Rattle.rules.specs.declared.Simple.TheVariants.{Tag, Id, Class, All, Attribute, AttributeValue, AttributeValueWhitespacedContains, AttributeValueStartsWith, AttributeValueEndsWith, AttributeValueSubstring}
+use Rattle.rules.specs.declared.Simple.TheVariants.{Tag, Id, Class, All, Attribute, AttributeValue, AttributeValueWhitespacedContains}
+use Rattle.rules.specs.declared.Simple.TheVariants.{AttributeValueStartsWith, AttributeValueEndsWith, AttributeValueSubstring}
 use Rattle.rules.specs.declared.Joiner.{Joiner}
 use Rattle.rules.specs.declared.Joiner.TheVariants.{End, And, Or, Descendant, Parent}
 use Rattle.rules.specs.declared.Piece.{Piece}

@@ -5,7 +5,9 @@ use Rattle.rules.specs.Names.{is_void}
 use Rattle.rules.specs.Reader.{read}
 use Rattle.rules.specs.Table.{words_of, row_at}
 use Rattle.rules.specs.Refusals.{counted_numbers, ranged_numbers, found_numbers, asked_numbers}
-use Rattle.rules.specs.Answers.{parse_answer, parse_table, range_answer, text_answer, text_buffer, attribute_answer, attribute_part, id_answer, class_answer, class_buffer, selector_answer, selector_buffer, query_answer, query_buffer, query_below_answer, query_below_buffer}
+use Rattle.rules.specs.Answers.{parse_answer, parse_table, range_answer, text_answer, text_buffer, attribute_answer, attribute_part, id_answer}
+use Rattle.rules.specs.Answers.{class_answer, class_buffer, selector_answer, selector_buffer, query_answer, query_buffer, query_below_answer}
+use Rattle.rules.specs.Answers.{query_below_buffer}
 use Rattle.rules.specs.declared.Manner.{Manner}
 
 -- A question to a page's table. Each buffer lent is zeros, of as many entries as the last number says.

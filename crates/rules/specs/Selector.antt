@@ -4,7 +4,8 @@ use Rattle.rules.specs.Bytes.{is_ident, is_quote, is}
 use Rattle.rules.specs.Scan.{pick, skip, here}
 use Rattle.rules.specs.declared.Span.{Span}
 use Rattle.rules.specs.declared.Simple.{Simple}
-use Rattle.rules.specs.declared.Simple.TheVariants.{Tag, Id, Class, All, Attribute, AttributeValue, AttributeValueWhitespacedContains, AttributeValueStartsWith, AttributeValueEndsWith, AttributeValueSubstring}
+use Rattle.rules.specs.declared.Simple.TheVariants.{Tag, Id, Class, All, Attribute, AttributeValue, AttributeValueWhitespacedContains}
+use Rattle.rules.specs.declared.Simple.TheVariants.{AttributeValueStartsWith, AttributeValueEndsWith, AttributeValueSubstring}
 
 abbrev pub span : ℕ → ℕ → Span
 span a e = record { start = a; end = e }

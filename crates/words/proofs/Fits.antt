@@ -82,7 +82,8 @@ module _ (k v : List ℕ) where
   from_start zero i l e = shorter k (drop i v) (omega (arith, length-drop i v))
   from_start (suc zero) i l e = rw (stands_here i) (last k (drop i v) (omega (arith, length-drop i v)))
   from_start (suc (suc n)) i l e =
-      ap₂ ◌||◌ (stands_here i) (from_start (suc n) (i + 1) (omega arith) (omega arith) ∙ ap (contains k) (sym (drop-drop 1 i v))) ∙ sym (next k (drop i v))
+      let later = from_start (suc n) (i + 1) (omega arith) (omega arith) ∙ ap (contains k) (sym (drop-drop 1 i v)) in
+      ap₂ ◌||◌ (stands_here i) later ∙ sym (next k (drop i v))
 
   pub at_starts : (n : ℕ) → n ≡ length v + 1 - length k → list_any stands (range_with_len 0 n) ≡ contains k v
   at_starts n e = from_start n 0 (omega arith) (omega arith)

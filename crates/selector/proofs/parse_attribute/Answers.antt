@@ -1,7 +1,8 @@
 -- `selector::parse_attribute` meets its contract: by the byte after the name, or the end.
 use mathlib.Core.Path.{refl}
 use Rattle.std.proofs.Common.{rules}
-use Rattle.rules.specs.declared.Simple.TheVariants.{AttributeValue, AttributeValueWhitespacedContains, AttributeValueStartsWith, AttributeValueEndsWith, AttributeValueSubstring}
+use Rattle.rules.specs.declared.Simple.TheVariants.{AttributeValue, AttributeValueWhitespacedContains, AttributeValueStartsWith}
+use Rattle.rules.specs.declared.Simple.TheVariants.{AttributeValueEndsWith, AttributeValueSubstring}
 use Rattle.selector.proofs.Steps.{byte_within, attribute_end, attribute_at, attribute_other}
 use Rattle.selector.proofs.parse_attribute.Goals as goal
 

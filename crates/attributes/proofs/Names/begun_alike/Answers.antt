@@ -13,9 +13,10 @@ returns-then-all-clause-alike c =
     let s = c.args.self.now.text.now in
     let es = c.args.self.now.ends.now in
     let n : ℕ = length es in
+    let begun : ℕ → Type 0 = λ j. Within (take 2 s) (name_at s es j) in
     let each =
     rw c.if-all.true at
-    (cases_from_all _ _ _ (λ j. Within (take 2 s) (name_at s es j)) (λ j. Unit {0}) c.all.ensures.ran (YieldsList-from_range 0 n n (search rules) (omega arith))
+    (cases_from_all _ _ _ begun (λ j. Unit {0}) c.all.ensures.ran (YieldsList-from_range 0 n n (search rules) (omega arith))
     (λ j q k. (search rules, starts_within (name_at s es j) (take 2 s) (search rules))) (λ j q k. tt)) in
     λ j l.
     let z : get_or (range_with_len 0 n) j 0 ≡ j = get_or-range_with_len 0 n j 0 l ∙ omega arith in

@@ -34,8 +34,8 @@ loop-b-preserved c = λ b.
     let q = c.args.self.now.bytes.now in
     let k = c.loop-b.b-index in
     let next = is (get_or q (4 + k) 0) b in
-    rw add-one
-    ((rw (white_byte q k (inside q k c.loop-b-test.true)) at (c.set_white-in-loop-b.ensures b)) ∙ ap (pick next true) (c.loop-b.invariant b) ∙ one_more next _)
+    let set = rw (white_byte q k (inside q k c.loop-b-test.true)) at (c.set_white-in-loop-b.ensures b) in
+    rw add-one (set ∙ ap (pick next true) (c.loop-b.invariant b) ∙ one_more next _)
 
 pub returns : goal.returns
 unfolding white_of
