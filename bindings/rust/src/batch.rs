@@ -2,7 +2,7 @@
 
 use crate::calls::HeldAt;
 use crate::refusal::outcome;
-use crate::{sys, Dom, Handle, Held, Kind, Node, Refusal};
+use crate::{sys, Dom, Handle, Held, Kind, Node, Profile, Refusal};
 
 /// The words of one answer of [`attributes`].
 const ANSWER: usize = 3;
@@ -11,8 +11,10 @@ const ANSWER: usize = 3;
 /// where that starts in the page, and ends. Answers how many tags there are.
 ///
 /// # Errors
-/// [`Refusal::PageTooLong`], [`Refusal::TableNotSound`], [`Refusal::NotATag`], [`Refusal::BufferTooShort`].
+/// [`Refusal::ProfileNotFine`], [`Refusal::PageTooLong`], [`Refusal::TableNotSound`], [`Refusal::NotATag`],
+/// [`Refusal::BufferTooShort`].
 pub fn attributes(
+    profile: &Profile,
     page: &[u8],
     table: &[u32],
     handles: &[Handle],
@@ -20,10 +22,11 @@ pub fn attributes(
     out: &mut [u32],
 ) -> Result<usize, Refusal> {
     let mut count = 0;
-    // SAFETY: each pointer is a slice's, given with its length, and a Handle is one u32; `out` is borrowed mutably, so
-    // nothing overlaps it; `count` is one usize.
+    // SAFETY: each pointer is a profile's, or a slice's, given with its length, and a Handle is one u32; `out` is
+    // borrowed mutably, so nothing overlaps it; `count` is one usize.
     let number = unsafe {
         sys::tl_attributes(
+            profile.as_raw(),
             page.as_ptr(),
             page.len(),
             table.as_ptr(),
@@ -45,8 +48,10 @@ pub fn attributes(
 /// after the other in `names`, and end at the places `ends`. Answers how many tags there are.
 ///
 /// # Errors
-/// [`Refusal::PageTooLong`], [`Refusal::TableNotSound`], [`Refusal::NotATag`], [`Refusal::BufferTooShort`].
+/// [`Refusal::ProfileNotFine`], [`Refusal::PageTooLong`], [`Refusal::TableNotSound`], [`Refusal::NotATag`],
+/// [`Refusal::BufferTooShort`].
 pub fn attributes_for_names(
+    profile: &Profile,
     page: &[u8],
     table: &[u32],
     handles: &[Handle],
@@ -58,6 +63,7 @@ pub fn attributes_for_names(
     // SAFETY: as in `attributes`.
     let number = unsafe {
         sys::tl_attributes_for_names(
+            profile.as_raw(),
             page.as_ptr(),
             page.len(),
             table.as_ptr(),
@@ -81,8 +87,10 @@ pub fn attributes_for_names(
 /// A refusal leaves both buffers all zeros.
 ///
 /// # Errors
-/// [`Refusal::PageTooLong`], [`Refusal::TableNotSound`], [`Refusal::NotATag`], [`Refusal::BufferTooShort`].
+/// [`Refusal::ProfileNotFine`], [`Refusal::PageTooLong`], [`Refusal::TableNotSound`], [`Refusal::NotATag`],
+/// [`Refusal::BufferTooShort`].
 pub fn inner_texts(
+    profile: &Profile,
     page: &[u8],
     table: &[u32],
     handles: &[Handle],
@@ -90,10 +98,11 @@ pub fn inner_texts(
     out: &mut [u8],
 ) -> Result<usize, Refusal> {
     let mut count = 0;
-    // SAFETY: each pointer is a slice's, given with its length, and a Handle is one u32; `ends` and `out` are borrowed
-    // mutably, so nothing overlaps them; `count` is one usize.
+    // SAFETY: each pointer is a profile's, or a slice's, given with its length, and a Handle is one u32; `ends` and
+    // `out` are borrowed mutably, so nothing overlaps them; `count` is one usize.
     let number = unsafe {
         sys::tl_inner_texts(
+            profile.as_raw(),
             page.as_ptr(),
             page.len(),
             table.as_ptr(),
@@ -164,6 +173,7 @@ impl<'a> Dom<'a> {
     {
         let mut words = vec![0; ANSWER * handles.len()];
         attributes(
+            self.profile(),
             self.page(),
             self.table(),
             handles,
@@ -202,8 +212,8 @@ impl<'a> Dom<'a> {
             ends.push(text.len());
         }
         let mut words = vec![0; ANSWER * names.len() * handles.len()];
-        let (page, table) = (self.page(), self.table());
-        attributes_for_names(page, table, handles, &text, &ends, &mut words)?;
+        let (profile, page, table) = (self.profile(), self.page(), self.table());
+        attributes_for_names(profile, page, table, handles, &text, &ends, &mut words)?;
         Ok(self.all_held(&words))
     }
 
@@ -229,7 +239,8 @@ impl<'a> Dom<'a> {
     pub fn inner_texts(&self, handles: &[Handle]) -> Result<Texts, Refusal> {
         let mut bytes = vec![0; self.texts_len(handles)];
         let mut ends = vec![0; handles.len()];
-        inner_texts(self.page(), self.table(), handles, &mut ends, &mut bytes)?;
+        let (profile, page, table) = (self.profile(), self.page(), self.table());
+        inner_texts(profile, page, table, handles, &mut ends, &mut bytes)?;
         Ok(Texts { bytes, ends })
     }
 
@@ -291,38 +302,38 @@ mod tests {
     #[test]
     fn refused_with_zeroed_buffers() {
         let dom = crate::parse("<p>a").unwrap();
-        let (page, table) = (dom.page(), dom.table());
+        let (profile, page, table) = (dom.profile(), dom.page(), dom.table());
         let tag = Handle::new(0);
         let text = Handle::new(1);
         let mut out = [7; 6];
-        let said = attributes(page, table, &[tag, text], b"k", &mut out);
+        let said = attributes(profile, page, table, &[tag, text], b"k", &mut out);
         assert_eq!((said, out), (Err(Refusal::NotATag), [0; 6]));
         let mut out = [7; 5];
-        let said = attributes(page, table, &[tag, tag], b"k", &mut out);
+        let said = attributes(profile, page, table, &[tag, tag], b"k", &mut out);
         assert_eq!((said, out), (Err(Refusal::BufferTooShort), [0; 5]));
         let mut out = [7; 8];
-        let said = attributes(page, table, &[tag, tag], b"k", &mut out);
+        let said = attributes(profile, page, table, &[tag, tag], b"k", &mut out);
         assert_eq!((said, out), (Ok(2), [0, 0, 0, 0, 0, 0, 7, 7]));
-        let said = attributes(b"<p>ab", table, &[tag], b"k", &mut out);
+        let said = attributes(profile, b"<p>ab", table, &[tag], b"k", &mut out);
         assert_eq!((said, out), (Err(Refusal::TableNotSound), [0; 8]));
 
         let (mut ends, mut out) = ([7; 2], [7; 2]);
-        let said = inner_texts(page, table, &[tag, text], &mut ends, &mut out);
+        let said = inner_texts(profile, page, table, &[tag, text], &mut ends, &mut out);
         assert_eq!((said, ends, out), (Err(Refusal::NotATag), [0; 2], [0; 2]));
         let (mut ends, mut out) = ([7; 2], [7; 1]);
-        let said = inner_texts(page, table, &[tag, tag], &mut ends, &mut out);
+        let said = inner_texts(profile, page, table, &[tag, tag], &mut ends, &mut out);
         assert_eq!(
             (said, ends, out),
             (Err(Refusal::BufferTooShort), [0; 2], [0; 1])
         );
         let (mut ends, mut out) = ([7; 1], [7; 2]);
-        let said = inner_texts(page, table, &[tag, tag], &mut ends, &mut out);
+        let said = inner_texts(profile, page, table, &[tag, tag], &mut ends, &mut out);
         assert_eq!(
             (said, ends, out),
             (Err(Refusal::BufferTooShort), [0; 1], [0; 2])
         );
         let (mut ends, mut out) = ([7; 3], [7; 3]);
-        let said = inner_texts(page, table, &[tag, tag], &mut ends, &mut out);
+        let said = inner_texts(profile, page, table, &[tag, tag], &mut ends, &mut out);
         assert_eq!((said, ends, &out), (Ok(2), [1, 2, 7], b"aa\x07"));
     }
 }

@@ -1,12 +1,15 @@
 //! The calls on slices that the caller lends, one for each of [`sys`]: nothing is allocated, and no condition is left.
 //!
-//! The table may be any words. A call on one that is not sound for its page is refused as
-//! [`Refusal::TableNotSound`]. A refusal leaves the buffer that was lent to be written all zeros; an accepted call fills
-//! its first entries and leaves the rest as it was. Every call looks at the whole table first, to see that it is sound.
+//! The profile may be one that is not fine, and the table any words: a call is then refused as [`Refusal::ProfileNotFine`],
+//! or, where the table is not sound for the page, as [`Refusal::TableNotSound`]. A table should be asked under the profile
+//! that its page was read with; another is answered too, by what it sets.
+//!
+//! A refusal leaves the buffer that was lent to be written all zeros; an accepted call fills its first entries and leaves the
+//! rest as it was. Every call looks at the whole table first, to see that it is sound.
 
 use crate::refusal::outcome;
 use crate::sys;
-use crate::{Manner, Refusal};
+use crate::{Manner, Profile, Refusal};
 
 /// Where in the page an attribute's value lies, if there is one.
 #[derive(Debug, Clone, Copy, PartialEq, Eq, Hash)]
@@ -32,21 +35,23 @@ impl HeldAt {
 /// Reads a page into a table: how many nodes it has. A table of `8 + 9 * n` words has room for `n`.
 ///
 /// ```
-/// use tl_rattle::{calls, words_for, Refusal, HEADER_WORDS};
+/// use tl_rattle::{calls, words_for, Profile, Refusal, HEADER_WORDS};
 /// let mut table = [0; words_for(1)];
-/// assert_eq!(calls::parse(b"a", &mut table), Ok(1));
+/// assert_eq!(calls::parse(&Profile::TL, b"a", &mut table), Ok(1));
 /// assert_eq!(table, [1, 0, 1, 8, 9, 0, 0, 0, 2, 0, 1, 0, 0, 0, 0, 0, 0]);
-/// assert_eq!(calls::parse(b"a", &mut table[..HEADER_WORDS]), Err(Refusal::TableTooSmall));
+/// let refused = calls::parse(&Profile::TL, b"a", &mut table[..HEADER_WORDS]);
+/// assert_eq!(refused, Err(Refusal::TableTooSmall));
 /// ```
 ///
 /// # Errors
-/// [`Refusal::PageTooLong`], [`Refusal::TableTooSmall`].
-pub fn parse(page: &[u8], table: &mut [u32]) -> Result<usize, Refusal> {
+/// [`Refusal::ProfileNotFine`], [`Refusal::PageTooLong`], [`Refusal::TableTooSmall`].
+pub fn parse(profile: &Profile, page: &[u8], table: &mut [u32]) -> Result<usize, Refusal> {
     let mut count = 0;
-    // SAFETY: each pointer is a slice's, given with its length; `table` is borrowed mutably, so nothing overlaps it;
-    // `count` is one usize.
+    // SAFETY: each pointer is a profile's, or a slice's, given with its length; `table` is borrowed mutably, so nothing
+    // overlaps it; `count` is one usize.
     let number = unsafe {
         sys::tl_parse(
+            profile.as_raw(),
             page.as_ptr(),
             page.len(),
             table.as_mut_ptr(),
@@ -59,14 +64,19 @@ pub fn parse(page: &[u8], table: &mut [u32]) -> Result<usize, Refusal> {
 }
 
 /// Reads a page into the room behind a vector's entries, which must be none, and takes in what was written.
-pub(crate) fn parse_spare(page: &[u8], table: &mut Vec<u32>) -> Result<(), Refusal> {
+pub(crate) fn parse_spare(
+    profile: &Profile,
+    page: &[u8],
+    table: &mut Vec<u32>,
+) -> Result<(), Refusal> {
     debug_assert!(table.is_empty());
     let spare = table.spare_capacity_mut();
     let mut count = 0;
-    // SAFETY: `page` as in `parse`; `spare` is aligned room for as many words, borrowed mutably. The call writes there and
-    // goes by no word that it has not written.
+    // SAFETY: `profile` and `page` as in `parse`; `spare` is aligned room for as many words, borrowed mutably. The call
+    // writes there and goes by no word that it has not written.
     let number = unsafe {
         sys::tl_parse(
+            profile.as_raw(),
             page.as_ptr(),
             page.len(),
             spare.as_mut_ptr().cast::<u32>(),
@@ -85,12 +95,19 @@ pub(crate) fn parse_spare(page: &[u8], table: &mut Vec<u32>) -> Result<(), Refus
 /// The handles below a tag: the first and the last, if there are any.
 ///
 /// # Errors
-/// [`Refusal::PageTooLong`], [`Refusal::TableNotSound`], [`Refusal::NotATag`].
-pub fn range(page: &[u8], table: &[u32], handle: usize) -> Result<Option<(usize, usize)>, Refusal> {
+/// [`Refusal::ProfileNotFine`], [`Refusal::PageTooLong`], [`Refusal::TableNotSound`], [`Refusal::NotATag`].
+pub fn range(
+    profile: &Profile,
+    page: &[u8],
+    table: &[u32],
+    handle: usize,
+) -> Result<Option<(usize, usize)>, Refusal> {
     let mut answer = [0usize; 3];
-    // SAFETY: each pointer is a slice's, given with its length; `answer` is three usizes of this function's own.
+    // SAFETY: each pointer is a profile's, or a slice's, given with its length; `answer` is three usizes of this
+    // function's own.
     let number = unsafe {
         sys::tl_range(
+            profile.as_raw(),
             page.as_ptr(),
             page.len(),
             table.as_ptr(),
@@ -107,10 +124,10 @@ pub fn range(page: &[u8], table: &[u32], handle: usize) -> Result<Option<(usize,
 /// Whether a table is sound for a page, that is whether it can be asked at all.
 ///
 /// # Errors
-/// [`Refusal::PageTooLong`], [`Refusal::TableNotSound`].
-pub fn check(page: &[u8], table: &[u32]) -> Result<(), Refusal> {
-    // the refusals are tried in the order of their numbers, and no row has this handle
-    match range(page, table, usize::MAX) {
+/// [`Refusal::ProfileNotFine`], [`Refusal::PageTooLong`], [`Refusal::TableNotSound`].
+pub fn check(profile: &Profile, page: &[u8], table: &[u32]) -> Result<(), Refusal> {
+    // 4 is tried after what is said of a profile, page and table, and no row has this handle
+    match range(profile, page, table, usize::MAX) {
         Err(Refusal::NotATag) => Ok(()),
         Err(refusal) => Err(refusal),
         Ok(_) => unreachable!("no table has a row of this handle"),
@@ -120,17 +137,20 @@ pub fn check(page: &[u8], table: &[u32]) -> Result<(), Refusal> {
 /// What a tag holds for an attribute name.
 ///
 /// # Errors
-/// [`Refusal::PageTooLong`], [`Refusal::TableNotSound`], [`Refusal::NotATag`].
+/// [`Refusal::ProfileNotFine`], [`Refusal::PageTooLong`], [`Refusal::TableNotSound`], [`Refusal::NotATag`].
 pub fn attribute(
+    profile: &Profile,
     page: &[u8],
     table: &[u32],
     handle: usize,
     name: &[u8],
 ) -> Result<HeldAt, Refusal> {
     let mut answer = [0usize; 3];
-    // SAFETY: each pointer is a slice's, given with its length; `answer` is three usizes of this function's own.
+    // SAFETY: each pointer is a profile's, or a slice's, given with its length; `answer` is three usizes of this
+    // function's own.
     let number = unsafe {
         sys::tl_attribute(
+            profile.as_raw(),
             page.as_ptr(),
             page.len(),
             table.as_ptr(),
@@ -148,18 +168,21 @@ pub fn attribute(
 /// Writes the text below a tag: how many bytes it has.
 ///
 /// # Errors
-/// [`Refusal::PageTooLong`], [`Refusal::TableNotSound`], [`Refusal::NotATag`], [`Refusal::BufferTooShort`].
+/// [`Refusal::ProfileNotFine`], [`Refusal::PageTooLong`], [`Refusal::TableNotSound`], [`Refusal::NotATag`],
+/// [`Refusal::BufferTooShort`].
 pub fn inner_text(
+    profile: &Profile,
     page: &[u8],
     table: &[u32],
     handle: usize,
     out: &mut [u8],
 ) -> Result<usize, Refusal> {
     let mut count = 0;
-    // SAFETY: each pointer is a slice's, given with its length; `out` is borrowed mutably, so nothing overlaps it;
-    // `count` is one usize.
+    // SAFETY: each pointer is a profile's, or a slice's, given with its length; `out` is borrowed mutably, so nothing
+    // overlaps it; `count` is one usize.
     let number = unsafe {
         sys::tl_inner_text(
+            profile.as_raw(),
             page.as_ptr(),
             page.len(),
             table.as_ptr(),
@@ -177,17 +200,20 @@ pub fn inner_text(
 /// The tag with an id.
 ///
 /// # Errors
-/// [`Refusal::PageTooLong`], [`Refusal::TableNotSound`].
+/// [`Refusal::ProfileNotFine`], [`Refusal::PageTooLong`], [`Refusal::TableNotSound`].
 pub fn get_element_by_id(
+    profile: &Profile,
     page: &[u8],
     table: &[u32],
     manner: Manner,
     id: &[u8],
 ) -> Result<Option<usize>, Refusal> {
     let mut answer = [0usize; 2];
-    // SAFETY: each pointer is a slice's, given with its length; `answer` is two usizes of this function's own.
+    // SAFETY: each pointer is a profile's, or a slice's, given with its length; `answer` is two usizes of this
+    // function's own.
     let number = unsafe {
         sys::tl_get_element_by_id(
+            profile.as_raw(),
             page.as_ptr(),
             page.len(),
             table.as_ptr(),
@@ -206,8 +232,9 @@ pub fn get_element_by_id(
 /// Writes the handles of the tags with a class: how many.
 ///
 /// # Errors
-/// [`Refusal::PageTooLong`], [`Refusal::TableNotSound`], [`Refusal::BufferTooShort`].
+/// [`Refusal::ProfileNotFine`], [`Refusal::PageTooLong`], [`Refusal::TableNotSound`], [`Refusal::BufferTooShort`].
 pub fn get_elements_by_class_name(
+    profile: &Profile,
     page: &[u8],
     table: &[u32],
     manner: Manner,
@@ -215,10 +242,11 @@ pub fn get_elements_by_class_name(
     out: &mut [u32],
 ) -> Result<usize, Refusal> {
     let mut count = 0;
-    // SAFETY: each pointer is a slice's, given with its length; `out` is borrowed mutably, so nothing overlaps it;
-    // `count` is one usize.
+    // SAFETY: each pointer is a profile's, or a slice's, given with its length; `out` is borrowed mutably, so nothing
+    // overlaps it; `count` is one usize.
     let number = unsafe {
         sys::tl_get_elements_by_class_name(
+            profile.as_raw(),
             page.as_ptr(),
             page.len(),
             table.as_ptr(),
@@ -259,19 +287,21 @@ pub fn parse_query_selector(selector: &[u8], out: &mut [u32]) -> Result<usize, R
 /// Writes the handles of the nodes that a selector finds, in order: how many.
 ///
 /// # Errors
-/// [`Refusal::PageTooLong`], [`Refusal::TableNotSound`], [`Refusal::SelectorTooLong`], [`Refusal::SelectorNotRead`],
-/// [`Refusal::BufferTooShort`].
+/// [`Refusal::ProfileNotFine`], [`Refusal::PageTooLong`], [`Refusal::TableNotSound`], [`Refusal::SelectorTooLong`],
+/// [`Refusal::SelectorNotRead`], [`Refusal::BufferTooShort`].
 pub fn query_selector(
+    profile: &Profile,
     page: &[u8],
     table: &[u32],
     selector: &[u8],
     out: &mut [u32],
 ) -> Result<usize, Refusal> {
     let mut count = 0;
-    // SAFETY: each pointer is a slice's, given with its length; `out` is borrowed mutably, so nothing overlaps it;
-    // `count` is one usize.
+    // SAFETY: each pointer is a profile's, or a slice's, given with its length; `out` is borrowed mutably, so nothing
+    // overlaps it; `count` is one usize.
     let number = unsafe {
         sys::tl_query_selector(
+            profile.as_raw(),
             page.as_ptr(),
             page.len(),
             table.as_ptr(),
@@ -290,9 +320,10 @@ pub fn query_selector(
 /// Writes the handles of the nodes below a tag that a selector finds, in order: how many.
 ///
 /// # Errors
-/// [`Refusal::PageTooLong`], [`Refusal::TableNotSound`], [`Refusal::NotATag`], [`Refusal::SelectorTooLong`],
-/// [`Refusal::SelectorNotRead`], [`Refusal::BufferTooShort`].
+/// [`Refusal::ProfileNotFine`], [`Refusal::PageTooLong`], [`Refusal::TableNotSound`], [`Refusal::NotATag`],
+/// [`Refusal::SelectorTooLong`], [`Refusal::SelectorNotRead`], [`Refusal::BufferTooShort`].
 pub fn query_selector_below(
+    profile: &Profile,
     page: &[u8],
     table: &[u32],
     handle: usize,
@@ -300,10 +331,11 @@ pub fn query_selector_below(
     out: &mut [u32],
 ) -> Result<usize, Refusal> {
     let mut count = 0;
-    // SAFETY: each pointer is a slice's, given with its length; `out` is borrowed mutably, so nothing overlaps it;
-    // `count` is one usize.
+    // SAFETY: each pointer is a profile's, or a slice's, given with its length; `out` is borrowed mutably, so nothing
+    // overlaps it; `count` is one usize.
     let number = unsafe {
         sys::tl_query_selector_below(
+            profile.as_raw(),
             page.as_ptr(),
             page.len(),
             table.as_ptr(),

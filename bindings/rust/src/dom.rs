@@ -1,7 +1,8 @@
 use std::borrow::Cow;
 
 use crate::calls::{self, HeldAt};
-use crate::{max_nodes, sys, words_for, Children, Handle, Kind, Node, Nodes, Refusal, MAX_PAGE};
+use crate::{max_nodes, sys, words_for};
+use crate::{Children, Handle, Kind, Node, Nodes, Profile, Refusal, MAX_PAGE};
 
 /// The version that a page's document type names.
 #[derive(Debug, Clone, Copy, PartialEq, Eq, Hash)]
@@ -55,14 +56,15 @@ impl<'a> Held<'a> {
     }
 }
 
-/// A page with its table.
+/// A page with its table, and the profile that it was read with: every lookup asks under it.
 pub struct Dom<'a> {
+    profile: &'a Profile,
     page: &'a [u8],
     // sound for the page, and not a word longer than its rows
     table: Cow<'a, [u32]>,
 }
 
-/// Reads a page into a table of its own.
+/// Reads a page into a table of its own, as tl reads it: under [`Profile::TL`].
 ///
 /// ```
 /// let dom = tl_rattle::parse("<br><p>Hello</p>")?;
@@ -77,25 +79,47 @@ pub fn parse<P>(page: &P) -> Result<Dom<'_>, Refusal>
 where
     P: AsRef<[u8]> + ?Sized,
 {
+    parse_with(&Profile::TL, page)
+}
+
+/// Reads a page under a profile into a table of its own.
+///
+/// ```
+/// use tl_rattle::{parse_with, Profile, Refusal};
+/// let short = Profile::default().with_limit(16)?;
+/// assert_eq!(parse_with(&short, "<br><p>Hello</p>")?.len(), 3);
+/// let refused = parse_with(&short, "<br><p>Hello!</p>");
+/// assert_eq!(refused.err(), Some(Refusal::PageTooLong));
+/// # Ok::<(), Box<dyn std::error::Error>>(())
+/// ```
+///
+/// # Errors
+/// [`Refusal::ProfileNotFine`], [`Refusal::PageTooLong`].
+pub fn parse_with<'a, P>(profile: &'a Profile, page: &'a P) -> Result<Dom<'a>, Refusal>
+where
+    P: AsRef<[u8]> + ?Sized,
+{
     let page = page.as_ref();
     // Room for the most nodes that such a page has, so that the table is never too small. The room is not zeroed, and what
     // the page's rows do not reach is never touched. Measured, this takes as long as reading into a lent table does. To
     // zero all of it took up to 2.7 times as long, on pages of much text; to begin with a row for 8 bytes, zeroed, and to
     // double it when refused up to 2.4 times, on pages of many tags.
-    let nodes = if page.len() <= MAX_PAGE {
+    let nodes = if page.len() <= profile.limit().min(MAX_PAGE) {
         max_nodes(page.len())
     } else {
         0
     };
     let mut table = Vec::with_capacity(words_for(nodes));
-    calls::parse_spare(page, &mut table)?;
+    calls::parse_spare(profile, page, &mut table)?;
     Ok(Dom {
+        profile,
         page,
         table: Cow::Owned(table),
     })
 }
 
-/// Reads a page into a table that the caller lends, `8 + 9 * n` words for `n` nodes ([`words_for`]).
+/// Reads a page into a table that the caller lends, `8 + 9 * n` words for `n` nodes ([`words_for`]), as tl reads it: under
+/// [`Profile::TL`].
 ///
 /// A refusal leaves the table all zeros. Otherwise the words after the last row stay as they were.
 ///
@@ -112,18 +136,34 @@ pub fn parse_into<'a, P>(page: &'a P, table: &'a mut [u32]) -> Result<Dom<'a>, R
 where
     P: AsRef<[u8]> + ?Sized,
 {
+    parse_into_with(&Profile::TL, page, table)
+}
+
+/// Reads a page under a profile into a table that the caller lends. Otherwise as [`parse_into`].
+///
+/// # Errors
+/// [`Refusal::ProfileNotFine`], [`Refusal::PageTooLong`], [`Refusal::TableTooSmall`].
+pub fn parse_into_with<'a, P>(
+    profile: &'a Profile,
+    page: &'a P,
+    table: &'a mut [u32],
+) -> Result<Dom<'a>, Refusal>
+where
+    P: AsRef<[u8]> + ?Sized,
+{
     let page = page.as_ref();
-    let count = calls::parse(page, table)?;
+    let count = calls::parse(profile, page, table)?;
     let table: &'a [u32] = table;
     Ok(Dom {
+        profile,
         page,
         table: Cow::Borrowed(&table[..words_for(count)]),
     })
 }
 
 impl<'a> Dom<'a> {
-    /// Takes a page with a table that was written before, here or elsewhere. The table may be any words: it is looked at
-    /// once, and refused if it is not sound for the page.
+    /// Takes a page with a table that was written before, here or elsewhere, to be asked under [`Profile::TL`]. The table
+    /// may be any words: it is looked at once, and refused if it is not sound for the page.
     ///
     /// To ask such a table without this first look, use [`calls`]: every call there looks for itself.
     ///
@@ -142,14 +182,46 @@ impl<'a> Dom<'a> {
     where
         P: AsRef<[u8]> + ?Sized,
     {
+        Dom::from_table_with(&Profile::TL, page, table)
+    }
+
+    /// Takes a page with a table that was written before, to be asked under a profile, which should be the one that the page
+    /// was read with. Otherwise as [`Dom::from_table`].
+    ///
+    /// ```
+    /// use tl_rattle::{parse_with, Dom, Handle, Profile};
+    /// let tabs = Profile::default().with_white(" \n\t")?;
+    /// let table = parse_with(&tabs, "<p k=1\tj=2>")?.table().to_vec();
+    /// let dom = Dom::from_table_with(&tabs, "<p k=1\tj=2>", &table)?;
+    /// assert_eq!(dom.attribute(Handle::new(0), "j")?.value(), Some(&b"2"[..]));
+    /// # Ok::<(), Box<dyn std::error::Error>>(())
+    /// ```
+    ///
+    /// # Errors
+    /// [`Refusal::ProfileNotFine`], [`Refusal::PageTooLong`], [`Refusal::TableNotSound`].
+    pub fn from_table_with<P>(
+        profile: &'a Profile,
+        page: &'a P,
+        table: &'a [u32],
+    ) -> Result<Dom<'a>, Refusal>
+    where
+        P: AsRef<[u8]> + ?Sized,
+    {
         let page = page.as_ref();
-        calls::check(page, table)?;
+        calls::check(profile, page, table)?;
         // a sound table holds its header and all its rows
         let words = words_for(table[0] as usize);
         Ok(Dom {
+            profile,
             page,
             table: Cow::Borrowed(&table[..words]),
         })
+    }
+
+    /// The profile under which the page was read, and every lookup asks.
+    #[inline]
+    pub fn profile(&self) -> &'a Profile {
+        self.profile
     }
 
     /// The page's bytes.
@@ -204,7 +276,7 @@ impl<'a> Dom<'a> {
     /// # Errors
     /// [`Refusal::NotATag`].
     pub fn range(&self, handle: Handle) -> Result<Option<(Handle, Handle)>, Refusal> {
-        let ends = calls::range(self.page, self.table(), handle.index())?;
+        let ends = calls::range(self.profile, self.page, self.table(), handle.index())?;
         Ok(ends.map(|(first, last)| (row(first), row(last))))
     }
 
@@ -227,7 +299,13 @@ impl<'a> Dom<'a> {
     where
         N: AsRef<[u8]>,
     {
-        let at = calls::attribute(self.page, self.table(), handle.index(), name.as_ref())?;
+        let at = calls::attribute(
+            self.profile,
+            self.page,
+            self.table(),
+            handle.index(),
+            name.as_ref(),
+        )?;
         Ok(self.held(at))
     }
 
@@ -256,7 +334,7 @@ impl<'a> Dom<'a> {
     /// [`Refusal::NotATag`].
     pub fn inner_text(&self, handle: Handle) -> Result<Vec<u8>, Refusal> {
         grown(self.text_len(handle), |out| {
-            calls::inner_text(self.page, self.table(), handle.index(), out)
+            calls::inner_text(self.profile, self.page, self.table(), handle.index(), out)
         })
     }
 
@@ -284,7 +362,8 @@ impl<'a> Dom<'a> {
     where
         I: AsRef<[u8]>,
     {
-        let found = calls::get_element_by_id(self.page, self.table(), manner, id.as_ref())?;
+        let found =
+            calls::get_element_by_id(self.profile, self.page, self.table(), manner, id.as_ref())?;
         Ok(found.map(row))
     }
 
@@ -304,7 +383,14 @@ impl<'a> Dom<'a> {
         let class = class.as_ref();
         // a class value may hold the class more than once, so there may be more finds than nodes
         let found = grown(self.len(), |out| {
-            calls::get_elements_by_class_name(self.page, self.table(), manner, class, out)
+            calls::get_elements_by_class_name(
+                self.profile,
+                self.page,
+                self.table(),
+                manner,
+                class,
+                out,
+            )
         })?;
         Ok(rows(found))
     }
@@ -319,7 +405,7 @@ impl<'a> Dom<'a> {
     {
         let selector = selector.as_ref();
         let found = grown(self.len(), |out| {
-            calls::query_selector(self.page, self.table(), selector, out)
+            calls::query_selector(self.profile, self.page, self.table(), selector, out)
         })?;
         Ok(rows(found))
     }
@@ -339,7 +425,14 @@ impl<'a> Dom<'a> {
         let selector = selector.as_ref();
         let below = self.node(handle).map_or(0, |node| node.descendants().len());
         let found = grown(below, |out| {
-            calls::query_selector_below(self.page, self.table(), handle.index(), selector, out)
+            calls::query_selector_below(
+                self.profile,
+                self.page,
+                self.table(),
+                handle.index(),
+                selector,
+                out,
+            )
         })?;
         Ok(rows(found))
     }

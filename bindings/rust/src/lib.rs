@@ -14,6 +14,20 @@
 //! A page is any bytes, UTF-8 or not, up to 65,536 of them. A node is named by its [`Handle`], its row in the page's
 //! table. What cannot be answered is refused, in the stated conditions only ([`Refusal`]).
 //!
+//! # A profile per counterparty
+//!
+//! One sender indents with tabs, another has void tags of its own. A [`Profile`] says which bytes are white in a page, which
+//! tag names are void, and how long a page may be. [`parse`] reads as tl does, [`parse_with`] under any profile, and a
+//! [`Dom`] asks every lookup under the profile that its page was read with.
+//!
+//! ```
+//! use tl_rattle::{parse_with, Profile};
+//! let tabs = Profile::default().with_white(" \n\t")?;
+//! let dom = parse_with(&tabs, "<tr\tid=f7\tclass=fill>")?;
+//! assert_eq!(dom.query_selector("tr.fill")?.len(), 1);
+//! # Ok::<(), Box<dyn std::error::Error>>(())
+//! ```
+//!
 //! # For those who know tl
 //!
 //! | tl | here |
@@ -27,6 +41,7 @@
 //! | `Attributes::get` | [`Dom::attribute`] |
 //! | tracking of ids and classes | [`Manner::Closed`] |
 //! | `queryselector::Selector` | the [`Piece`]s of [`parse_query_selector`] |
+//! | white bytes and void tags, which are fixed | [`Profile`] and [`parse_with`]; [`Profile::TL`] has tl's |
 //!
 //! A lookup's finds are a vector and not an iterator, a text is bytes and not a string, and nothing can be changed.
 //!
@@ -47,16 +62,19 @@ pub mod batch;
 pub mod calls;
 mod dom;
 mod node;
+mod profile;
 mod refusal;
 mod selector;
 pub mod sys;
 
-pub use dom::{parse, parse_into, Dom, HTMLVersion, Held, Manner};
+pub use dom::{parse, parse_into, parse_into_with, parse_with};
+pub use dom::{Dom, HTMLVersion, Held, Manner};
 pub use node::{Children, Ended, Handle, Kind, Node, Nodes};
+pub use profile::{Profile, ProfileError};
 pub use refusal::Refusal;
 pub use selector::{parse_query_selector, Joiner, Piece, Simple};
 
-/// The most bytes that a page may have.
+/// The most bytes that a page may have under any profile: the limit of tl's, and the highest that one may set.
 pub const MAX_PAGE: usize = 65_536;
 
 /// The most bytes that a selector may have.
@@ -75,8 +93,9 @@ pub const fn words_for(nodes: usize) -> usize {
 
 /// The most nodes that a page of `bytes` bytes has: `(2 * bytes + 1) / 3`, rounded down.
 ///
-/// It is proved for every page, and that for each length up to [`MAX_PAGE`] some page has as many (`NodeBound` in
-/// crates/maxnodes). So [`words_for`] of it is room for any page of that length, and no less would do for all of them.
+/// It is proved for every page under any profile, and that for each length up to [`MAX_PAGE`] some page has as many
+/// (`NodeBound` in crates/maxnodes). So [`words_for`] of it is room for any page of that length, and no less would do for
+/// all of them.
 ///
 /// ```
 /// // a text of one byte, and then two bytes for each tag and one for each text

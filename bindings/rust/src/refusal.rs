@@ -1,12 +1,15 @@
 use std::error::Error;
 use std::fmt;
 
-/// Why a call was refused. The cases stand in the order in which they are tried.
+/// Why a call was refused. The cases stand in the order in which they are tried; they compare by their numbers.
 #[derive(Debug, Clone, Copy, PartialEq, Eq, PartialOrd, Ord, Hash)]
 #[non_exhaustive]
 #[repr(u32)]
 pub enum Refusal {
-    /// 1: the page is over 65,536 bytes.
+    /// 14: the profile is outside its limits. Its limit is 0 or over 65,536; or a white byte is over 32; or a void name has
+    /// a byte that is no letter, no digit and none of `-`, `_`, `:`, `+` and `/`, or goes on after a zero.
+    ProfileNotFine = 14,
+    /// 1: the page is over the profile's limit, which is 65,536 bytes in tl's.
     PageTooLong = 1,
     /// 2: the table that was lent to a reading is below 8 words, or has fewer rows than the page has nodes.
     TableTooSmall = 2,
@@ -24,7 +27,7 @@ pub enum Refusal {
 
 impl Refusal {
     /// All refusals, in the order of their numbers.
-    pub const ALL: [Refusal; 7] = [
+    pub const ALL: [Refusal; 8] = [
         Refusal::PageTooLong,
         Refusal::TableTooSmall,
         Refusal::TableNotSound,
@@ -32,6 +35,7 @@ impl Refusal {
         Refusal::SelectorTooLong,
         Refusal::SelectorNotRead,
         Refusal::BufferTooShort,
+        Refusal::ProfileNotFine,
     ];
 
     /// The refusal's number, as the C interface returns it.
@@ -50,7 +54,8 @@ impl Refusal {
 impl fmt::Display for Refusal {
     fn fmt(&self, f: &mut fmt::Formatter<'_>) -> fmt::Result {
         f.write_str(match self {
-            Refusal::PageTooLong => "page over 65,536 bytes",
+            Refusal::ProfileNotFine => "profile outside its limits",
+            Refusal::PageTooLong => "page over the profile's limit",
             Refusal::TableTooSmall => "table too small for the page",
             Refusal::TableNotSound => "table not sound for the page",
             Refusal::NotATag => "handle is no tag's",
@@ -83,7 +88,8 @@ mod tests {
     #[test]
     fn numbers() {
         let numbers: Vec<u32> = Refusal::ALL.iter().map(|r| r.number()).collect();
-        assert_eq!(numbers, [1, 2, 3, 4, 5, 6, 7]);
+        assert_eq!(numbers, [1, 2, 3, 4, 5, 6, 7, 14]);
+        assert!(Refusal::ALL.is_sorted());
         for refusal in Refusal::ALL {
             assert_eq!(Refusal::from_number(refusal.number()), Some(refusal));
             assert_eq!(outcome(refusal.number()), Err(refusal));
@@ -91,6 +97,8 @@ mod tests {
         }
         assert_eq!(Refusal::from_number(0), None);
         assert_eq!(Refusal::from_number(8), None);
+        assert_eq!(Refusal::from_number(13), None);
+        assert_eq!(Refusal::from_number(15), None);
         assert_eq!(outcome(0), Ok(()));
     }
 }

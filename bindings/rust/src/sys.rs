@@ -7,9 +7,58 @@
 //! # Safety
 //!
 //! A page, name, selector or buffer is a pointer and the number of its entries. The pointer must be one of as many
-//! entries, aligned for their type, and not null even if there are none; what is lent to be written must overlap nothing
-//! else that is lent. `count` points to one `usize`, `answer` to two or three, as the call says. These are the only
-//! conditions; no call asks anything of what the entries hold.
+//! entries, aligned for their type, and not null even if there are none; `profile` must point to one profile; what is lent
+//! to be written must overlap nothing else that is lent. `count` points to one `usize`, `answer` to two or three, as the
+//! call says. These are the only conditions; no call asks anything of what the entries hold.
+
+use std::mem::size_of;
+
+/// What a counterparty's pages are like; [`crate::Profile`] has one, and says what it means.
+#[repr(C)]
+#[derive(Debug, Clone, Copy, PartialEq, Eq, Hash)]
+#[allow(non_camel_case_types)]
+pub struct tl_profile {
+    /// The most bytes of a page that is read, 1 to 65,536.
+    pub limit: u32,
+    /// The white bytes, each 1 to 32; 0 in a place where there is none.
+    pub white: [u8; 4],
+    /// The void names, each of 1 to 16 bytes with zeros behind them; all zeros in a place where there is none.
+    pub void_names: [[u8; 16]; 24],
+}
+
+const _: () = assert!(size_of::<tl_profile>() == 392);
+
+/// tl's own profile.
+pub const TL_PROFILE_DEFAULT: tl_profile = tl_profile {
+    limit: 65_536,
+    white: [b' ', b'\n', 0, 0],
+    void_names: [
+        *b"area\0\0\0\0\0\0\0\0\0\0\0\0",
+        *b"base\0\0\0\0\0\0\0\0\0\0\0\0",
+        *b"br\0\0\0\0\0\0\0\0\0\0\0\0\0\0",
+        *b"col\0\0\0\0\0\0\0\0\0\0\0\0\0",
+        *b"embed\0\0\0\0\0\0\0\0\0\0\0",
+        *b"hr\0\0\0\0\0\0\0\0\0\0\0\0\0\0",
+        *b"img\0\0\0\0\0\0\0\0\0\0\0\0\0",
+        *b"input\0\0\0\0\0\0\0\0\0\0\0",
+        *b"keygen\0\0\0\0\0\0\0\0\0\0",
+        *b"link\0\0\0\0\0\0\0\0\0\0\0\0",
+        *b"meta\0\0\0\0\0\0\0\0\0\0\0\0",
+        *b"param\0\0\0\0\0\0\0\0\0\0\0",
+        *b"source\0\0\0\0\0\0\0\0\0\0",
+        *b"track\0\0\0\0\0\0\0\0\0\0\0",
+        *b"wbr\0\0\0\0\0\0\0\0\0\0\0\0\0",
+        [0; 16],
+        [0; 16],
+        [0; 16],
+        [0; 16],
+        [0; 16],
+        [0; 16],
+        [0; 16],
+        [0; 16],
+        [0; 16],
+    ],
+};
 
 /// The manner of a lookup over all tags.
 pub const TL_SCAN: u32 = 0;
@@ -29,8 +78,9 @@ pub const TL_ENDED_CUT_SHORT: u32 = 2;
 pub const TL_ENDED_NEVER_OPENED: u32 = 3;
 
 extern "C" {
-    /// Reads a page into a table. `*count`: its nodes. Refused as 1, 2.
+    /// Reads a page into a table. `*count`: its nodes. Refused as 14, 1, 2.
     pub fn tl_parse(
+        profile: *const tl_profile,
         page: *const u8,
         page_len: usize,
         table: *mut u32,
@@ -38,8 +88,9 @@ extern "C" {
         count: *mut usize,
     ) -> u32;
 
-    /// The handles below a tag. `answer`, three entries: how many, the first, the last. Refused as 1, 3, 4.
+    /// The handles below a tag. `answer`, three entries: how many, the first, the last. Refused as 14, 1, 3, 4.
     pub fn tl_range(
+        profile: *const tl_profile,
         page: *const u8,
         page_len: usize,
         table: *const u32,
@@ -49,8 +100,9 @@ extern "C" {
     ) -> u32;
 
     /// What a tag holds for an attribute name. `answer`, three entries: 0 absent, 1 without a value, 2 with a value;
-    /// where that starts in the page, and ends. Refused as 1, 3, 4.
+    /// where that starts in the page, and ends. Refused as 14, 1, 3, 4.
     pub fn tl_attribute(
+        profile: *const tl_profile,
         page: *const u8,
         page_len: usize,
         table: *const u32,
@@ -61,8 +113,9 @@ extern "C" {
         answer: *mut usize,
     ) -> u32;
 
-    /// The text below a tag. `*count`: its bytes. Refused as 1, 3, 4, 7.
+    /// The text below a tag. `*count`: its bytes. Refused as 14, 1, 3, 4, 7.
     pub fn tl_inner_text(
+        profile: *const tl_profile,
         page: *const u8,
         page_len: usize,
         table: *const u32,
@@ -74,8 +127,9 @@ extern "C" {
     ) -> u32;
 
     /// The tag with an id: in the scan the lowest handle, else the one closed last. `answer`, two entries: how many
-    /// (0 or 1), the handle. Refused as 1, 3.
+    /// (0 or 1), the handle. Refused as 14, 1, 3.
     pub fn tl_get_element_by_id(
+        profile: *const tl_profile,
         page: *const u8,
         page_len: usize,
         table: *const u32,
@@ -87,8 +141,9 @@ extern "C" {
     ) -> u32;
 
     /// The tags with a class: in the scan each once, in handle order, else in closing order, once for each time.
-    /// `*count`: the handles written. Refused as 1, 3, 7.
+    /// `*count`: the handles written. Refused as 14, 1, 3, 7.
     pub fn tl_get_elements_by_class_name(
+        profile: *const tl_profile,
         page: *const u8,
         page_len: usize,
         table: *const u32,
@@ -112,8 +167,9 @@ extern "C" {
         count: *mut usize,
     ) -> u32;
 
-    /// The nodes that a selector finds, in handle order. `*count`: the handles written. Refused as 1, 3, 5, 6, 7.
+    /// The nodes that a selector finds, in handle order. `*count`: the handles written. Refused as 14, 1, 3, 5, 6, 7.
     pub fn tl_query_selector(
+        profile: *const tl_profile,
         page: *const u8,
         page_len: usize,
         table: *const u32,
@@ -125,8 +181,9 @@ extern "C" {
         count: *mut usize,
     ) -> u32;
 
-    /// The nodes below a tag that a selector finds. Refused as 1, 3, 4, 5, 6, 7.
+    /// The nodes below a tag that a selector finds. Refused as 14, 1, 3, 4, 5, 6, 7.
     pub fn tl_query_selector_below(
+        profile: *const tl_profile,
         page: *const u8,
         page_len: usize,
         table: *const u32,
@@ -140,8 +197,9 @@ extern "C" {
     ) -> u32;
 
     /// What each tag of a list of handles holds for an attribute name, as [`tl_attribute`] answers: 3 words a handle.
-    /// `*count`: the handles. Refused as 1, 3, 4 (a handle of the list is no tag's), 7.
+    /// `*count`: the handles. Refused as 14, 1, 3, 4 (a handle of the list is no tag's), 7.
     pub fn tl_attributes(
+        profile: *const tl_profile,
         page: *const u8,
         page_len: usize,
         table: *const u32,
@@ -157,9 +215,10 @@ extern "C" {
 
     /// What each tag of a list of handles holds for each of several attribute names: 3 words a name, a handle's words
     /// together. `names` is one text: name j stands from the end of the one before (0 for the first) up to `ends[j]`;
-    /// places past the text's end count as its end. `*count`: the handles. Refused as 1, 3, 4 (a handle of the list is no
+    /// places past the text's end count as its end. `*count`: the handles. Refused as 14, 1, 3, 4 (a handle of the list is no
     /// tag's), 7.
     pub fn tl_attributes_for_names(
+        profile: *const tl_profile,
         page: *const u8,
         page_len: usize,
         table: *const u32,
@@ -176,9 +235,10 @@ extern "C" {
     ) -> u32;
 
     /// The texts below each tag of a list of handles, one after the other in `out`, and where each ends. `*count`: the
-    /// handles. A refusal leaves both `ends` and `out` all zeros. Refused as 1, 3, 4 (a handle of the list is no
+    /// handles. A refusal leaves both `ends` and `out` all zeros. Refused as 14, 1, 3, 4 (a handle of the list is no
     /// tag's), 7.
     pub fn tl_inner_texts(
+        profile: *const tl_profile,
         page: *const u8,
         page_len: usize,
         table: *const u32,

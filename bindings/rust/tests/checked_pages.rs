@@ -89,7 +89,7 @@ fn values() {
     let value = held("k").value().unwrap();
     assert!(std::ptr::eq(value, &page.as_bytes()[5..6]));
     assert_eq!(
-        calls::attribute(dom.page(), dom.table(), 0, b"k"),
+        calls::attribute(dom.profile(), dom.page(), dom.table(), 0, b"k"),
         Ok(calls::HeldAt::Value(5, 6))
     );
 }
@@ -369,7 +369,8 @@ fn what_the_table_held_before_makes_no_difference() {
     let words = dom.table().len();
     for before in [0, 1, 2, 8, 9, u32::MAX] {
         let mut table = vec![before; words + ROW_WORDS + 1];
-        assert_eq!(calls::parse(page.as_bytes(), &mut table), Ok(dom.len()));
+        let said = calls::parse(dom.profile(), page.as_bytes(), &mut table);
+        assert_eq!(said, Ok(dom.len()));
         assert_eq!(table[..words], *dom.table());
         assert_eq!(table[words..], [before; ROW_WORDS + 1]);
     }

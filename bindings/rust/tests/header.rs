@@ -4,7 +4,7 @@ use std::collections::BTreeMap;
 use std::io::Write;
 use std::process::{Command, Stdio};
 
-use tl_rattle::{max_nodes, sys, words_for, HEADER_WORDS, MAX_PAGE, ROW_WORDS};
+use tl_rattle::{max_nodes, sys, words_for, Profile, HEADER_WORDS, MAX_PAGE, ROW_WORDS};
 
 const HEADER: &str = include_str!("../../../include/tl.h");
 const SYS: &str = include_str!("../src/sys.rs");
@@ -33,6 +33,17 @@ fn declared(text: &str, before: &str, after: &str) -> BTreeMap<String, Vec<Strin
     calls
 }
 
+/// A type of the header as Rust writes it.
+fn kind_in_rust(kind: &str) -> &str {
+    match kind {
+        "uint8_t" | "char" => "u8",
+        "uint32_t" => "u32",
+        "size_t" => "usize",
+        "struct tl_profile" => "tl_profile",
+        _ => panic!("{kind}"),
+    }
+}
+
 /// An argument of the header as Rust writes it.
 fn in_rust(argument: &str) -> String {
     let (kind, name) = argument.rsplit_once(' ').expect("a type and a name");
@@ -40,12 +51,7 @@ fn in_rust(argument: &str) -> String {
         Some(kind) => (true, kind),
         None => (false, kind),
     };
-    let kind = match kind {
-        "uint8_t" => "u8",
-        "uint32_t" => "u32",
-        "size_t" => "usize",
-        _ => panic!("{argument}"),
-    };
+    let kind = kind_in_rust(kind);
     let pointed = name.strip_prefix('*');
     let listed = name.split_once('[').map(|(name, _)| name);
     match (pointed.or(listed), constant) {
@@ -53,6 +59,57 @@ fn in_rust(argument: &str) -> String {
         (Some(name), false) => format!("{name}: *mut {kind}"),
         (None, false) => format!("{name}: {kind}"),
         (None, true) => panic!("{argument}"),
+    }
+}
+
+/// A member of the header's struct as Rust writes it.
+fn member_in_rust(member: &str) -> String {
+    let (kind, name) = member.trim().rsplit_once(' ').expect("a type and a name");
+    let mut parts = name.split('[');
+    let name = parts.next().expect("a name");
+    let sizes = parts.map(|size| size.trim_end_matches(']'));
+    let kind = sizes
+        .rev()
+        .fold(kind_in_rust(kind).to_owned(), |kind, size| {
+            format!("[{kind}; {size}]")
+        });
+    format!("pub {name}: {kind}")
+}
+
+/// What stands in a text between the two marks.
+fn between<'t>(text: &'t str, open: &str, close: &str) -> &'t str {
+    let (_, rest) = text.split_once(open).expect("it is opened");
+    rest.split_once(close).expect("it is closed").0
+}
+
+/// Whether a compiler takes a program that includes the header, without a warning.
+fn compiles(compiler: &str, arguments: &[&str], program: &str) -> bool {
+    let include = concat!(env!("CARGO_MANIFEST_DIR"), "/../../include");
+    let mut compiler = Command::new(compiler)
+        .args(["-Wall", "-Wextra", "-pedantic", "-Werror", "-I", include])
+        .args(arguments)
+        .arg("-")
+        .stdin(Stdio::piped())
+        .spawn()
+        .expect("there is such a compiler");
+    let mut source = compiler.stdin.take().expect("it reads the program");
+    source.write_all(program.as_bytes()).unwrap();
+    drop(source);
+    compiler.wait().unwrap().success()
+}
+
+#[test]
+fn in_c_and_in_cpp() {
+    let standards = [
+        ("cc", "c", "-std=c99"),
+        ("cc", "c", "-std=c11"),
+        ("c++", "c++", "-std=c++11"),
+    ];
+    let program = "#include \"tl.h\"\nstruct tl_profile made(void);\n\
+        struct tl_profile made(void) { struct tl_profile p = TL_PROFILE_DEFAULT; return p; }\n";
+    for (compiler, language, standard) in standards {
+        let arguments = [standard, "-fsyntax-only", "-x", language];
+        assert!(compiles(compiler, &arguments, program), "{standard}");
     }
 }
 
@@ -94,6 +151,7 @@ fn the_numbers() {
     let constants: Vec<(&str, u32)> = SYS
         .lines()
         .filter_map(|line| line.strip_prefix("pub const "))
+        .filter(|constant| !constant.starts_with("TL_PROFILE_DEFAULT: "))
         .map(|constant| constant.split_once(": u32 = ").expect("it is a u32"))
         .map(|(name, value)| (name, value.trim_end_matches(';').parse().unwrap()))
         .collect();
@@ -116,24 +174,30 @@ fn the_room_for_a_page() {
         assert_eq!(words_for(nodes), words);
         asserts += &format!("_Static_assert(TL_WORDS({nodes}u) == {words}u, \"\");\n");
     }
-    let include = concat!(env!("CARGO_MANIFEST_DIR"), "/../../include");
-    let mut compiler = Command::new("cc")
-        .args([
-            "-std=c11",
-            "-Wall",
-            "-Werror",
-            "-fsyntax-only",
-            "-I",
-            include,
-            "-x",
-            "c",
-            "-",
-        ])
-        .stdin(Stdio::piped())
-        .spawn()
-        .expect("there is a C compiler");
-    let mut source = compiler.stdin.take().expect("it reads the program");
-    source.write_all(asserts.as_bytes()).unwrap();
-    drop(source);
-    assert!(compiler.wait().unwrap().success());
+    let arguments = ["-std=c11", "-fsyntax-only", "-x", "c"];
+    assert!(compiles("cc", &arguments, &asserts));
+}
+
+#[test]
+fn the_profile() {
+    let members = between(HEADER, "struct tl_profile {", "}").split(';');
+    let members = members.filter(|member| !member.trim().is_empty());
+    let members: Vec<String> = members.map(member_in_rust).collect();
+    let of_sys = between(SYS, "pub struct tl_profile {", "}").lines();
+    let of_sys = of_sys.map(|line| line.trim().trim_end_matches(','));
+    let of_sys = of_sys.filter(|line| !line.is_empty() && !line.starts_with("///"));
+    assert_eq!(members, of_sys.collect::<Vec<_>>());
+}
+
+/// The header's constant, as a C program writes it.
+#[test]
+fn tls_profile() {
+    let program = "#include <stdio.h>\n#include \"tl.h\"\n\
+        int main(void) { return fwrite(&TL_PROFILE_DEFAULT, 392, 1, stdout) != 1; }\n";
+    let path = concat!(env!("CARGO_TARGET_TMPDIR"), "/tls_profile");
+    let arguments = ["-std=c11", "-o", path, "-x", "c"];
+    assert!(compiles("cc", &arguments, program));
+    let said = Command::new(path).output().expect("it runs");
+    assert!(said.status.success());
+    assert_eq!(said.stdout, Profile::TL.to_bytes());
 }

@@ -7,7 +7,8 @@ use Prim.Native.Nat.{ℕ, ◌*◌, ◌≤◌}
 use native.Mathlib.Omega.{arith}
 use lib.ListN.{length, replicate, length-replicate}
 use Rattle.rules.specs.Lookup.{InsideAssigned, lookup_from}
-use Rattle.rules.specs.Refusals.{page_limit, held_numbers}
+use Rattle.rules.specs.Profile.{page_limit}
+use Rattle.rules.specs.Refusals.{held_numbers}
 use Rattle.rules.specs.declared.Attribute.{Attribute}
 use Rattle.rules.specs.declared.Held.{Held}
 use Rattle.rules.specs.declared.Held.TheVariants.{Absent}

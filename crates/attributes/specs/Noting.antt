@@ -2,7 +2,8 @@
 use Rattle.std.specs.Prelude.{◌≡◌, List, ℕ, ◌*◌, ◌≤◌, length, take, drop}
 use Rattle.rules.specs.Scan.{pick, part, same}
 use Rattle.rules.specs.Lookup.{InsideAssigned, is_last, held_as}
-use Rattle.rules.specs.Refusals.{page_limit, held_numbers}
+use Rattle.rules.specs.Profile.{page_limit}
+use Rattle.rules.specs.Refusals.{held_numbers}
 use Rattle.rules.specs.Batch.{each_name}
 use Rattle.rules.specs.declared.Attribute.{Attribute}
 use Rattle.rules.specs.declared.Held.{Held}

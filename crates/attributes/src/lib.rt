@@ -8,7 +8,8 @@ ghost use Rattle.std.specs.Prelude.{◌≡◌, false, ◌∷◌, suc, ◌*◌, �
 ghost use Rattle.rules.specs.Scan.{part};
 ghost use Rattle.rules.specs.Words.{Within};
 ghost use Rattle.rules.specs.Lookup.{Inside, lookup, lookup_from};
-ghost use Rattle.rules.specs.Refusals.{page_limit, held_numbers};
+ghost use Rattle.rules.specs.Profile.{page_limit};
+ghost use Rattle.rules.specs.Refusals.{held_numbers};
 ghost use Rattle.scan.specs.Marks.{white_in};
 ghost use Rattle.attributes.specs.Noting.{Placed, held_words, Notes, NotesOne, NotesAll};
 ghost use Rattle.attributes.specs.Slots.{name_at, slot_of, many, Slotted, Alike};

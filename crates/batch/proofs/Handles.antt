@@ -2,7 +2,7 @@
 use mathlib.Core.Path.{◌≡◌, refl, ap, ◌∙◌}
 use mathlib.Core.Bool.{Bool, true, false, not, ◌||◌}
 use Rattle.std.proofs.Common.{IsTrue, ◌↔◌}
-use borrow.Author.Tests.{not-false, le-ltb}
+use borrow.Author.Tests.{not-false}
 use mathlib.Core.List.{List, [], ◌∷◌, ◌++◌}
 use Prim.Native.Nat.{ℕ, zero, suc, ◌+◌, ◌*◌, ◌≤◌, ◌<◌}
 use native.Mathlib.Numerals.{add-one}
@@ -12,7 +12,8 @@ use lib.Seq.{drop-cons}
 use Rattle.rules.specs.Lists.{each}
 use Rattle.rules.specs.Buffers.{Wrote}
 use Rattle.rules.specs.Batch.{some}
-use Rattle.rules.specs.Refusals.{page_limit, not_a_tag}
+use Rattle.rules.specs.Refusals.{not_a_tag}
+use Rattle.rules.specs.Profile.{Settings, settings_of}
 use Rattle.rules.specs.Table.{node_at}
 use Rattle.rules.specs.Sound.{is_tag}
 use Rattle.rules.proofs.Buffers.{Left, left_room, left_more, left_none}
@@ -83,15 +84,18 @@ module _ (ws : List ℕ) where
       go false e = t.1 (none_each hs e)
 
 -- the handle at i is a tag's
-pub tag_at : (t : Tags) (i : ℕ) → i < length t.handles.now → SoundTag t.document.page.now t.document.table.now (get_or t.handles.now i 0)
+pub tag_at : (t : Tags) (i : ℕ) → i < length t.handles.now
+    → SoundTag (settings_of t.profile.bytes.now) t.document.page.now t.document.table.now (get_or t.handles.now i 0)
 tag_at t i l =
+    let f = settings_of t.profile.bytes.now in
     let p = t.document.page.now in
     let ws = t.document.table.now in
-    sound_tag p ws (get_or t.handles.now i 0) (record { short = le-ltb page_limit (length p) t.short; table = t.document.fits })
+    sound_tag f p ws (get_or t.handles.now i 0) (record { fine = ap not t.profile.fine; short = t.short; table = t.document.fits })
     (ap not (t.each i l))
 
 -- its name ends before its opening does, which lies in the page
-pub opening : (p ws : List ℕ) {h : ℕ} → SoundTag p ws h → ((node_at ws h).stop < (node_at ws h).opened) × ((node_at ws h).opened ≤ length p)
+pub opening : {f : Settings} (p ws : List ℕ) {h : ℕ} → SoundTag f p ws h
+    → ((node_at ws h).stop < (node_at ws h).opened) × ((node_at ws h).opened ≤ length p)
 opening p ws {h} s =
     let r = sound_rows (length p) ws s.sound_table.table h s.below in
     let t = r.tag s.tag in (omega arith, omega (arith, r.end_len))

@@ -6,7 +6,7 @@ use Prim.Native.Nat.{ℕ, suc, ◌+◌, ◌*◌, ◌<◌}
 use native.Mathlib.Nat.{mul-suc}
 use native.Mathlib.Omega.{arith}
 use lib.ListN.{length, get_or, replicate, replicate-append-replicate}
-use Rattle.rules.specs.Bytes.{is_white}
+use Rattle.rules.specs.Profile.{white_of, settings_of}
 use Rattle.rules.specs.Table.{node_at}
 use Rattle.rules.specs.Lookup.{lookup}
 use Rattle.rules.specs.Lists.{each}
@@ -22,41 +22,42 @@ use Rattle.batch.specs.Batch.{Unnamed}
 use Rattle.batch.proofs.Handles.{length_each, opening}
 use Rattle.batch.proofs.Three.{three_length, three_tag}
 
-module _ (p ws s es : List ℕ) where
+module _ (q p ws s es : List ℕ) where
   abbrev pub words : ℕ → List ℕ
-  words h = each_name (three_of is_white p ws h) s 0 es
+  words h = each_name (three_of (settings_of q) p ws h) s 0 es
 
   pub words_length : (h : ℕ) → length (words h) ≡ 3 * length es
-  words_length h = length_names s (three_of is_white p ws h) 3 (λ k. three_length p ws k h) 0 es
+  words_length h = length_names s (three_of (settings_of q) p ws h) 3 (λ k. three_length q p ws k h) 0 es
 
   pub words_all : (hs : List ℕ) → length (each words hs) ≡ 3 * (length es * length hs)
   words_all hs = length_each words (3 * length es) words_length hs ∙ omega arith
 
   -- at a tag
-  pub words_tag : {h : ℕ} → SoundTag p ws h → {white : ℕ → Bool} → white ≡ is_white → {n : Node} → n ≡ node_at ws h
+  pub words_tag : {h : ℕ} → SoundTag (settings_of q) p ws h → {white : ℕ → Bool} → white ≡ white_of q → {n : Node} → n ≡ node_at ws h
       → held_words (lookup white p n) s es ≡ words h
-  words_tag {h} t w q =
-      rw (w, q) (names_same s (λ k. held_numbers (lookup is_white p (node_at ws h) k)) (three_of is_white p ws h) (λ k. sym (three_tag p ws k h t)) 0 es)
+  words_tag {h} t w e =
+      rw (w, e) (names_same s (λ k. held_numbers (lookup (white_of q) p (node_at ws h) k)) (three_of (settings_of q) p ws h)
+      (λ k. sym (three_tag q p ws k h t)) 0 es)
 
   -- where k is within each name and in no handle's opening, nothing is held
   zeros_each : (hs : List ℕ) → ((i : ℕ) → i < length hs → words (get_or hs i 0) ≡ replicate (3 * length es) 0)
       → replicate (3 * length es * length hs) 0 ≡ each words hs
   unfolding each
-  zeros_each [] q = let z : 3 * length es * 0 ≡ 0 = omega arith in rw z
-  zeros_each (h ∷ hs) q =
+  zeros_each [] e = let z : 3 * length es * 0 ≡ 0 = omega arith in rw z
+  zeros_each (h ∷ hs) e =
       let z : 3 * length es * suc (length hs) ≡ 3 * length es + 3 * length es * length hs = mul-suc (3 * length es) (length hs) ∙ omega arith in
       rw (
         z,
         ← replicate-append-replicate {A = ℕ} (3 * length es) (3 * length es * length hs) 0,
-        q 0 (omega arith),
-        zeros_each hs (λ i l. q (suc i) (omega arith)),
+        e 0 (omega arith),
+        zeros_each hs (λ i l. e (suc i) (omega arith)),
       )
 
-  pub words_none : (hs k : List ℕ) → ((i : ℕ) → i < length hs → SoundTag p ws (get_or hs i 0)) → Alike s es k
+  pub words_none : (hs k : List ℕ) → ((i : ℕ) → i < length hs → SoundTag (settings_of q) p ws (get_or hs i 0)) → Alike s es k
       → Unnamed p ws k hs → replicate (3 * length es * length hs) 0 ≡ each words hs
   words_none hs k t alike none =
       zeros_each hs
       (λ i l.
       let x = t i l in
       let o = opening p ws x in
-      sym (absent_words is_white p (node_at ws (get_or hs i 0)) o.0 o.1 s es k alike (none i l) ∙ words_tag x refl refl))
+      sym (absent_words (white_of q) p (node_at ws (get_or hs i 0)) o.0 o.1 s es k alike (none i l) ∙ words_tag x refl refl))

@@ -1,6 +1,7 @@
--- What is known of a list of handles once refusals 1, 3 and 4 are past, and what is promised of the buffers.
+-- What is known of a list of handles once refusals 14, 1, 3 and 4 are past, and what is promised of the buffers.
 use Rattle.std.specs.Prelude.{Bool, true, EachIndex, slice_index, ◌&&◌, ◌||◌, ◌≡◌, List, [], ℕ, ◌+◌, ◌*◌, ◌/◌}
 use Rattle.std.specs.Prelude.{◌%◌, ◌≤◌, ◌<◌, eqb, ltb, length, get_or, Option, MatchOption, Result, Ok, Err, ⊤}
+use Rattle.rules.specs.Profile.{Settings}
 use Rattle.rules.specs.Scan.{pick, part}
 use Rattle.rules.specs.Words.{Within}
 use Rattle.rules.specs.Table.{node_at}
@@ -12,9 +13,9 @@ use Rattle.rules.specs.Batch.{some, texts_found, ends_found}
 use Rattle.rules.specs.declared.Refusal.TheVariants.{NotATag, BufferTooShort}
 use Rattle.rules.specs.declared.Refusal.{Refusal}
 
--- refusals 1, 3 and 4
-abbrev pub tags_checked : List ℕ → List ℕ → List ℕ → Result ⊤ Refusal
-tags_checked p ws hs = asking p ws (pick (some (not_a_tag ws) hs) (Err NotATag) (Ok tt))
+-- refusals 14, 1, 3 and 4
+abbrev pub tags_checked : Settings → List ℕ → List ℕ → List ℕ → Result ⊤ Refusal
+tags_checked f p ws hs = asking f p ws (pick (some (not_a_tag ws) hs) (Err NotATag) (Ok tt))
 
 -- each handle is a tag's
 abbrev pub AllTags : List ℕ → List ℕ → Type 0

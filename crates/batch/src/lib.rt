@@ -4,21 +4,21 @@
 #![tactic(auto)]
 
 ghost use Rattle.std.specs.Prelude.{◌≡◌, ◌↔◌, IsTrue, IfOk, true, false, not, ◌++◌, ◌+◌, ◌*◌, ◌≤◌, ◌<◌, ltb, length, drop, replicate};
-ghost use Rattle.rules.specs.Bytes.{is_white};
+ghost use Rattle.rules.specs.Profile.{page_limit, settings_of};
 ghost use Rattle.rules.specs.Sound.{count_of};
 ghost use Rattle.rules.specs.Text.{inner_text};
-ghost use Rattle.rules.specs.Refusals.{page_limit, held_numbers, filled_by};
+ghost use Rattle.rules.specs.Refusals.{page_too_long, told, held_numbers, filled_by};
 ghost use Rattle.rules.specs.Buffers.{Wrote};
 ghost use Rattle.rules.specs.Batch.{attributes_found, attributes_answer, attributes_buffer, names_found, names_answer, names_buffer};
 ghost use Rattle.rules.specs.Batch.{texts_answer, texts_buffer, ends_buffer};
 ghost use Rattle.rules.specs.Lookup.{Inside};
 ghost use Rattle.attributes.specs.Slots.{Alike};
-ghost use Rattle.calls.specs.Calls.{Filled, told};
+ghost use Rattle.calls.specs.Calls.{Filled};
 ghost use Rattle.batch.specs.Batch.{tags_checked, AllTags, unless, FilledBoth, Unnamed, TextsLeft, Passes, Covers, PassesNoText, next_text, Puts};
 
 use attributes::{Names, Slots};
+use profile::{Profile, SIZE};
 use rules::{Held, Refusal};
-use scan::Marks;
 use sound::Document;
 use tag::Tag;
 
@@ -30,12 +30,13 @@ const FEW: usize = 4096;
 
 // ---- the checks that come before the answers
 
-// A document whose page is not too long, and handles that are each a tag's.
+// A document whose page is not too long under the profile, and handles that are each a tag's.
 #[derive(Clone, Copy)]
 struct Tags<'a> {
+    profile: Profile<'a>,
     document: Document<'a>,
     handles: &'a [u32],
-    ghost short: { length document.page.now ≤ page_limit },
+    ghost short: { page_too_long (settings_of profile.bytes.now) document.page.now ≡ false },
     ghost each: { AllTags document.table.now handles.now },
 }
 
@@ -46,14 +47,27 @@ fn all_tags(d: &Document, handles: &[u32]) -> bool
     handles.iter().all(|&h| d.is_tag(h as usize))
 }
 
-// Refusals 1, 3 and 4.
-fn check_tags<'a>(page: &'a [u8], table: &'a [u32], handles: &'a [u32]) -> Result<Tags<'a>, Refusal>
-    ensures answer { told result ≡ tags_checked page.now table.now handles.now }
-    ensures lent { IfOk result (λ t. (t.document.page.now ≡ page.now) × (t.document.table.now ≡ table.now) × (t.handles.now ≡ handles.now)) }
+// Refusals 14, 1, 3 and 4.
+fn check_tags<'a>(
+    profile: &'a [u8; SIZE],
+    page: &'a [u8],
+    table: &'a [u32],
+    handles: &'a [u32],
+) -> Result<Tags<'a>, Refusal>
+    ensures answer { told result ≡ tags_checked (settings_of profile.now) page.now table.now handles.now }
+    ensures lent { IfOk result
+        (λ t. (t.profile.bytes.now ≡ profile.now)
+        × (t.document.page.now ≡ page.now)
+        × (t.document.table.now ≡ table.now)
+        × (t.handles.now ≡ handles.now)) }
 {
-    let document = calls::check(page, table)?;
-    if all_tags(&document, handles) {
-        return Ok(Tags { document, handles });
+    let c = calls::check(profile, page, table)?;
+    if all_tags(&c.document, handles) {
+        return Ok(Tags {
+            profile: c.profile,
+            document: c.document,
+            handles,
+        });
     }
     Err(Refusal::NotATag)
 }
@@ -76,10 +90,10 @@ fn put_held(held: Held, out: &mut [u32], at: usize) -> usize
 fn put_attributes(tags: &Tags, name: &[u8], out: &mut [u32])
     requires { 3 * length tags.now.handles.now ≤ length out.old }
     ensures { let d = tags.now.document in
-        let found = attributes_found is_white d.page.now d.table.now tags.now.handles.now name.now in
+        let found = attributes_found (settings_of tags.now.profile.bytes.now) d.page.now d.table.now tags.now.handles.now name.now in
         out.new ≡ found ++ drop (length found) out.old }
 {
-    let t = Marks::new();
+    let t = tags.profile.marks();
     let d = &tags.document;
     let mut at = 0;
     for &h in tags.handles {
@@ -93,7 +107,7 @@ fn list_attributes(tags: &Tags, name: &[u8], out: &mut [u32]) -> Result<usize, R
     ensures { let d = tags.now.document in
         let hs = tags.now.handles.now in
         let b = out.old in
-        let found = attributes_found is_white d.page.now d.table.now hs name.now in
+        let found = attributes_found (settings_of tags.now.profile.bytes.now) d.page.now d.table.now hs name.now in
         Filled (unless (ltb (length b) (3 * length hs)) (length hs)) (filled_by b found result) result out.new }
 {
     let n = tags.handles.len();
@@ -109,20 +123,22 @@ fn list_attributes(tags: &Tags, name: &[u8], out: &mut [u32]) -> Result<usize, R
 // 2 with a value), and where a value starts and ends.
 #[tactic(auto, unfolding(rules::specs::Batch::batch_answer, rules::specs::Batch::attributes_answer, rules::specs::Batch::attributes_buffer))]
 pub fn attributes(
+    profile: &[u8; SIZE],
     page: &[u8],
     table: &[u32],
     handles: &[u32],
     name: &[u8],
     out: &mut [u32],
 ) -> Result<usize, Refusal>
-    ensures { let p = page.now in
+    ensures { let f = settings_of profile.now in
+        let p = page.now in
         let ws = table.now in
         let hs = handles.now in
         let k = name.now in
         let b = out.old in
-        Filled (attributes_answer is_white p ws hs (length b)) (attributes_buffer is_white p ws hs k b) result out.new }
+        Filled (attributes_answer f p ws hs (length b)) (attributes_buffer f p ws hs k b) result out.new }
 {
-    match check_tags(page, table, handles) {
+    match check_tags(profile, page, table, handles) {
         Err(why) => table::refuse(out, why),
         Ok(tags) => list_attributes(&tags, name, out),
     }
@@ -153,9 +169,9 @@ fn read_names(tags: &Tags, names: &Names, first: &[u8], out: &mut [u32])
     requires alike { Alike names.now.text.now names.now.ends.now first.now }
     requires zeros { out.old ≡ replicate (3 * length names.now.ends.now * length tags.now.handles.now) 0 }
     ensures { let d = tags.now.document in
-        out.new ≡ names_found is_white d.page.now d.table.now tags.now.handles.now names.now.text.now names.now.ends.now }
+        out.new ≡ names_found (settings_of tags.now.profile.bytes.now) d.page.now d.table.now tags.now.handles.now names.now.text.now names.now.ends.now }
 {
-    let t = Marks::new();
+    let t = tags.profile.marks();
     let mut of = [0u8; 256];
     attributes::fill_slots(&mut of, names);
     let slots = Slots {
@@ -177,7 +193,7 @@ fn read_names(tags: &Tags, names: &Names, first: &[u8], out: &mut [u32])
 fn put_names(tags: &Tags, names: &Names, out: &mut [u32])
     requires { 3 * (length names.now.ends.now * length tags.now.handles.now) ≤ length out.old }
     ensures { let d = tags.now.document in
-        let found = names_found is_white d.page.now d.table.now tags.now.handles.now names.now.text.now names.now.ends.now in
+        let found = names_found (settings_of tags.now.profile.bytes.now) d.page.now d.table.now tags.now.handles.now names.now.text.now names.now.ends.now in
         out.new ≡ found ++ drop (length found) out.old }
 {
     let all = 3 * (names.len() * tags.handles.len());
@@ -195,7 +211,7 @@ fn list_names(tags: &Tags, names: &Names, out: &mut [u32]) -> Result<usize, Refu
         let hs = tags.now.handles.now in
         let es = names.now.ends.now in
         let b = out.old in
-        let found = names_found is_white d.page.now d.table.now hs names.now.text.now es in
+        let found = names_found (settings_of tags.now.profile.bytes.now) d.page.now d.table.now hs names.now.text.now es in
         Filled (unless (ltb (length b) (3 * (length es * length hs))) (length hs)) (filled_by b found result) result out.new }
 {
     let n = tags.handles.len();
@@ -210,6 +226,7 @@ fn list_names(tags: &Tags, names: &Names, out: &mut [u32]) -> Result<usize, Refu
 // stand in one text, each from the end of the one before up to its place in `ends`.
 #[tactic(auto, unfolding(rules::specs::Batch::batch_answer, rules::specs::Batch::names_answer, rules::specs::Batch::names_buffer))]
 pub fn attributes_for_names(
+    profile: &[u8; SIZE],
     page: &[u8],
     table: &[u32],
     handles: &[u32],
@@ -217,15 +234,16 @@ pub fn attributes_for_names(
     ends: &[usize],
     out: &mut [u32],
 ) -> Result<usize, Refusal>
-    ensures { let p = page.now in
+    ensures { let f = settings_of profile.now in
+        let p = page.now in
         let ws = table.now in
         let hs = handles.now in
         let s = names.now in
         let es = ends.now in
         let b = out.old in
-        Filled (names_answer is_white p ws hs es (length b)) (names_buffer is_white p ws hs s es b) result out.new }
+        Filled (names_answer f p ws hs es (length b)) (names_buffer f p ws hs s es b) result out.new }
 {
-    match check_tags(page, table, handles) {
+    match check_tags(profile, page, table, handles) {
         Err(why) => table::refuse(out, why),
         Ok(tags) => list_names(&tags, &Names { text: names, ends }, out),
     }
@@ -422,6 +440,7 @@ fn list_texts(tags: &Tags, ends: &mut [usize], out: &mut [u8]) -> Result<usize, 
 
 // The inner texts of a list of tags, one after the other, and where each ends.
 pub fn inner_texts(
+    profile: &[u8; SIZE],
     page: &[u8],
     table: &[u32],
     handles: &[u32],
@@ -433,9 +452,10 @@ pub fn inner_texts(
         let hs = handles.now in
         let e = ends.old in
         let b = out.old in
-        FilledBoth (texts_answer p ws hs (length e) (length b)) (ends_buffer p ws hs e b) (texts_buffer p ws hs e b) result ends.new out.new }
+        let f = settings_of profile.now in
+        FilledBoth (texts_answer f p ws hs (length e) (length b)) (ends_buffer f p ws hs e b) (texts_buffer f p ws hs e b) result ends.new out.new }
 {
-    match check_tags(page, table, handles) {
+    match check_tags(profile, page, table, handles) {
         Err(why) => refuse_texts(ends, out, why),
         Ok(tags) => list_texts(&tags, ends, out),
     }

@@ -1,6 +1,5 @@
 -- What the public calls promise of a buffer.
-use Rattle.std.specs.Prelude.{◌≡◌, List, ℕ, length, Result, Ok, Err, ⊤}
-use Rattle.rules.specs.Bytes.{is_white}
+use Rattle.std.specs.Prelude.{◌≡◌, List, ℕ, Bool, length, Result}
 use Rattle.rules.specs.Lists.{only}
 use Rattle.rules.specs.Chain.{read_selector}
 use Rattle.rules.specs.Query.{matches}
@@ -14,14 +13,9 @@ pub record Filled (answer : Result ℕ Refusal) (buffer : List ℕ) (r : Result 
   pub is : r ≡ answer
   pub left : out ≡ buffer
 
--- what a check tells: that nothing is refused, or why
-abbrev pub told : {A : Type 0} → Result A Refusal → Result ⊤ Refusal
-told (Ok a) = Ok tt
-told (Err x) = Err x
-
 -- of the rows hs, those that match the chain
-abbrev pub among : List ℕ → List ℕ → List ℕ → List ℕ → List Piece → List ℕ
-among p ws s hs ps = only (matches is_white p ws s ps) hs
+abbrev pub among : (ℕ → Bool) → List ℕ → List ℕ → List ℕ → List ℕ → List Piece → List ℕ
+among white p ws s hs ps = only (matches white p ws s ps) hs
 
 -- a query's answer by its selector, and the lent words afterwards
 pub record Selects (finds : List Piece → List ℕ) (s b : List ℕ) (r : Result ℕ Refusal) (out : List ℕ) : Type 0 where

@@ -3,9 +3,9 @@
 
 #![tactic(auto)]
 
-ghost use Rattle.std.specs.Prelude.{◌≡◌, ◌-◌, ◌≤◌, ◌<◌, length, IfOk, Ok};
-ghost use Rattle.rules.specs.Bytes.{is_white};
-ghost use Rattle.rules.specs.Refusals.{Counts, asking, asking_tag, held_part};
+ghost use Rattle.std.specs.Prelude.{◌≡◌, ◌-◌, ◌≤◌, ◌<◌, false, length, IfOk, Ok};
+ghost use Rattle.rules.specs.Profile.{white_of, settings_of};
+ghost use Rattle.rules.specs.Refusals.{Counts, page_too_long, asking, asking_tag, told, held_part};
 ghost use Rattle.rules.specs.Lists.{from};
 ghost use Rattle.rules.specs.Sound.{count_of};
 ghost use Rattle.rules.specs.Text.{inner_text};
@@ -13,11 +13,11 @@ ghost use Rattle.rules.specs.Finds.{by_class};
 ghost use Rattle.rules.specs.Lookup.{Inside};
 ghost use Rattle.rules.specs.Answers.{range_answer, text_answer, text_buffer, attribute_answer, attribute_part, id_answer, class_answer};
 ghost use Rattle.rules.specs.Answers.{class_buffer, query_answer, query_buffer, query_below_answer, query_below_buffer};
-ghost use Rattle.calls.specs.Calls.{Filled, Selects, told, among};
+ghost use Rattle.calls.specs.Calls.{Filled, Selects, among};
 
 use piece::Chain;
+use profile::{Profile, SIZE};
 use rules::{Held, Manner, Refusal};
-use scan::Marks;
 use sound::Document;
 use std::ops::Range;
 use tag::Tag;
@@ -27,25 +27,43 @@ const DEPTH: usize = 64;
 
 // ---- the checks that come before an answer
 
-// Refusals 1 and 3.
-pub fn check<'a>(page: &'a [u8], table: &'a [u32]) -> Result<Document<'a>, Refusal>
-    ensures answer { told result ≡ asking page.now table.now (Ok tt) }
-    ensures lent { IfOk result (λ d. (d.page.now ≡ page.now) × (d.table.now ≡ table.now)) }
-{
-    if rules::PAGE_LIMIT < page.len() {
-        return Err(Refusal::PageTooLong);
-    }
-    Document::new(page, table).ok_or(Refusal::TableNotSound)
+// What a call asks: a document, and the profile that it is read by.
+#[derive(Clone, Copy)]
+pub struct Checked<'a> {
+    pub profile: Profile<'a>,
+    pub document: Document<'a>,
+    ghost short: { page_too_long (settings_of profile.bytes.now) document.page.now ≡ false },
 }
 
-// Refusals 1, 3 and 4.
-fn check_tag<'a>(page: &'a [u8], table: &'a [u32], h: usize) -> Result<Document<'a>, Refusal>
-    ensures answer { told result ≡ asking_tag page.now table.now h (Ok tt) }
-    ensures lent { IfOk result (λ d. (d.page.now ≡ page.now) × (d.table.now ≡ table.now)) }
+// Refusals 14, 1 and 3.
+pub fn check<'a>(
+    profile: &'a [u8; SIZE],
+    page: &'a [u8],
+    table: &'a [u32],
+) -> Result<Checked<'a>, Refusal>
+    ensures answer { told result ≡ asking (settings_of profile.now) page.now table.now (Ok tt) }
+    ensures lent { IfOk result
+        (λ c. (c.profile.bytes.now ≡ profile.now) × (c.document.page.now ≡ page.now) × (c.document.table.now ≡ table.now)) }
 {
-    let d = check(page, table)?;
-    if d.is_tag(h) {
-        return Ok(d);
+    let profile = profile::check(profile, page)?;
+    let document = Document::new(page, table).ok_or(Refusal::TableNotSound)?;
+    Ok(Checked { profile, document })
+}
+
+// Refusals 14, 1, 3 and 4.
+fn check_tag<'a>(
+    profile: &'a [u8; SIZE],
+    page: &'a [u8],
+    table: &'a [u32],
+    h: usize,
+) -> Result<Checked<'a>, Refusal>
+    ensures answer { told result ≡ asking_tag (settings_of profile.now) page.now table.now h (Ok tt) }
+    ensures lent { IfOk result
+        (λ c. (c.profile.bytes.now ≡ profile.now) × (c.document.page.now ≡ page.now) × (c.document.table.now ≡ table.now)) }
+{
+    let c = check(profile, page, table)?;
+    if c.document.is_tag(h) {
+        return Ok(c);
     }
     Err(Refusal::NotATag)
 }
@@ -54,21 +72,32 @@ fn check_tag<'a>(page: &'a [u8], table: &'a [u32], h: usize) -> Result<Document<
 
 // The handles below a tag.
 #[tactic(auto, unfolding(rules::specs::Answers::range_answer))]
-pub fn range(page: &[u8], table: &[u32], h: usize) -> Result<Option<(usize, usize)>, Refusal>
-    ensures { result ≡ range_answer is_white page.now table.now h }
+pub fn range(
+    profile: &[u8; SIZE],
+    page: &[u8],
+    table: &[u32],
+    h: usize,
+) -> Result<Option<(usize, usize)>, Refusal>
+    ensures { result ≡ range_answer (settings_of profile.now) page.now table.now h }
 {
-    let d = check_tag(page, table, h)?;
-    Ok(tag::range(h, d.row(h).last as usize))
+    let c = check_tag(profile, page, table, h)?;
+    Ok(tag::range(h, c.document.row(h).last as usize))
 }
 
 // What a tag holds for an attribute name.
 #[tactic(auto, unfolding(rules::specs::Answers::attribute_answer))]
-pub fn attribute(page: &[u8], table: &[u32], h: usize, name: &[u8]) -> Result<Held, Refusal>
-    ensures { result ≡ attribute_answer is_white page.now table.now h name.now }
+pub fn attribute(
+    profile: &[u8; SIZE],
+    page: &[u8],
+    table: &[u32],
+    h: usize,
+    name: &[u8],
+) -> Result<Held, Refusal>
+    ensures { result ≡ attribute_answer (settings_of profile.now) page.now table.now h name.now }
 {
-    let d = check_tag(page, table, h)?;
-    let t = Marks::new();
-    Ok(Tag::of(&d, h).attribute(&t, name))
+    let c = check_tag(profile, page, table, h)?;
+    let t = c.profile.marks();
+    Ok(Tag::of(&c.document, h).attribute(&t, name))
 }
 
 // The part of the page that is held: empty without a value.
@@ -83,10 +112,16 @@ fn held_part<'a>(page: &'a [u8], held: Held) -> &'a [u8]
 }
 
 // The part of the page that a tag holds for an attribute name: empty without a value, and where `attribute` refuses.
-pub fn attribute_value<'a>(page: &'a [u8], table: &[u32], h: usize, name: &[u8]) -> &'a [u8]
-    ensures { result.now ≡ attribute_part is_white page.now table.now h name.now }
+pub fn attribute_value<'a>(
+    profile: &[u8; SIZE],
+    page: &'a [u8],
+    table: &[u32],
+    h: usize,
+    name: &[u8],
+) -> &'a [u8]
+    ensures { result.now ≡ attribute_part (settings_of profile.now) page.now table.now h name.now }
 {
-    let Ok(held) = attribute(page, table, h, name) else {
+    let Ok(held) = attribute(profile, page, table, h, name) else {
         return &page[..0];
     };
     held_part(page, held)
@@ -107,15 +142,22 @@ fn write_text(d: &Document, h: usize, out: &mut [u8]) -> Result<usize, Refusal>
 
 // The text below a tag: the bytes of its text nodes, joined.
 #[tactic(auto, unfolding(rules::specs::Answers::text_answer, rules::specs::Answers::text_buffer))]
-pub fn inner_text(page: &[u8], table: &[u32], h: usize, out: &mut [u8]) -> Result<usize, Refusal>
-    ensures { let p = page.now in
+pub fn inner_text(
+    profile: &[u8; SIZE],
+    page: &[u8],
+    table: &[u32],
+    h: usize,
+    out: &mut [u8],
+) -> Result<usize, Refusal>
+    ensures { let f = settings_of profile.now in
+        let p = page.now in
         let ws = table.now in
         let b = out.old in
-        Filled (text_answer is_white p ws h (length b)) (text_buffer is_white p ws h b) result out.new }
+        Filled (text_answer f p ws h (length b)) (text_buffer f p ws h b) result out.new }
 {
-    match check_tag(page, table, h) {
+    match check_tag(profile, page, table, h) {
         Err(why) => table::refuse(out, why),
-        Ok(d) => write_text(&d, h, out),
+        Ok(c) => write_text(&c.document, h, out),
     }
 }
 
@@ -124,63 +166,68 @@ pub fn inner_text(page: &[u8], table: &[u32], h: usize, out: &mut [u8]) -> Resul
 // The tag with an id: in a scan the lowest handle, else the one closed last.
 #[tactic(auto, unfolding(rules::specs::Answers::id_answer))]
 pub fn get_element_by_id(
+    profile: &[u8; SIZE],
     page: &[u8],
     table: &[u32],
     manner: Manner,
     id: &[u8],
 ) -> Result<Option<usize>, Refusal>
-    ensures { result ≡ id_answer is_white page.now table.now manner id.now }
+    ensures { result ≡ id_answer (settings_of profile.now) page.now table.now manner id.now }
 {
-    let d = check(page, table)?;
-    let t = Marks::new();
+    let c = check(profile, page, table)?;
+    let t = c.profile.marks();
     match manner {
-        Manner::Scan => Ok(vdom::id_scan(&t, &d, id)),
-        Manner::Closed => Ok(closing::id_closed(&t, &d, id)),
+        Manner::Scan => Ok(vdom::id_scan(&t, &c.document, id)),
+        Manner::Closed => Ok(closing::id_closed(&t, &c.document, id)),
     }
 }
 
 // The tags with a class, of a document.
-fn list_class(d: &Document, manner: Manner, class: &[u8], out: &mut [u32]) -> Result<usize, Refusal>
-    ensures { let found = by_class is_white d.now.page.now d.now.table.now manner class.now in
+fn list_class(c: &Checked, manner: Manner, class: &[u8], out: &mut [u32]) -> Result<usize, Refusal>
+    ensures { let d = c.now.document in
+        let found = by_class (white_of c.now.profile.bytes.now) d.page.now d.table.now manner class.now in
         Counts found out.old result out.new }
 {
-    let t = Marks::new();
+    let t = c.profile.marks();
     match manner {
-        Manner::Scan => vdom::class_scan(&t, d, class, out),
-        Manner::Closed => closing::class_closed(&t, d, class, out),
+        Manner::Scan => vdom::class_scan(&t, &c.document, class, out),
+        Manner::Closed => closing::class_closed(&t, &c.document, class, out),
     }
 }
 
 // The tags with a class: in a scan each once in handle order, else in closing order, once for each time.
 #[tactic(auto, unfolding(rules::specs::Answers::class_answer, rules::specs::Answers::class_buffer))]
 pub fn get_elements_by_class_name(
+    profile: &[u8; SIZE],
     page: &[u8],
     table: &[u32],
     manner: Manner,
     class: &[u8],
     out: &mut [u32],
 ) -> Result<usize, Refusal>
-    ensures { let p = page.now in
+    ensures { let f = settings_of profile.now in
+        let p = page.now in
         let ws = table.now in
         let b = out.old in
         let k = class.now in
-        Filled (class_answer is_white p ws manner k (length b)) (class_buffer is_white p ws manner k b) result out.new }
+        Filled (class_answer f p ws manner k (length b)) (class_buffer f p ws manner k b) result out.new }
 {
-    match check(page, table) {
+    match check(profile, page, table) {
         Err(why) => table::refuse(out, why),
-        Ok(d) => list_class(&d, manner, class, out),
+        Ok(c) => list_class(&c, manner, class, out),
     }
 }
 
 // ---- queries
 
 // The finds of a selector among these handles, or refusals 5, 6 and 7. A `Range` knows no document, so that it is said to be of this one.
-fn select(d: &Document, handles: Range<usize>, s: &[u8], out: &mut [u32]) -> Result<usize, Refusal>
-    requires { (handles.start ≤ handles.end) × (handles.end ≤ count_of d.now.table.now) }
-    ensures { let finds = among d.now.page.now d.now.table.now s.now (from handles.start (handles.end - handles.start)) in
+fn select(c: &Checked, handles: Range<usize>, s: &[u8], out: &mut [u32]) -> Result<usize, Refusal>
+    requires { (handles.start ≤ handles.end) × (handles.end ≤ count_of c.now.document.table.now) }
+    ensures { let d = c.now.document in
+        let finds = among (white_of c.now.profile.bytes.now) d.page.now d.table.now s.now (from handles.start (handles.end - handles.start)) in
         Selects finds s.now out.old result out.new }
 {
-    let t = Marks::new();
+    let t = c.profile.marks();
     let mut words = [0u32; queryselector::ROOM];
     let pieces = match queryselector::read(&t, s, &mut words) {
         Ok(n) => n,
@@ -191,49 +238,53 @@ fn select(d: &Document, handles: Range<usize>, s: &[u8], out: &mut [u32]) -> Res
         words: &words,
         pieces,
     };
-    vdom::query(&t, d, handles, &chain, out)
+    vdom::query(&t, &c.document, handles, &chain, out)
 }
 
 // The nodes of the page that a selector finds, in handle order.
 #[tactic(auto, unfolding(rules::specs::Answers::query_answer, rules::specs::Answers::query_buffer))]
 pub fn query_selector(
+    profile: &[u8; SIZE],
     page: &[u8],
     table: &[u32],
     s: &[u8],
     out: &mut [u32],
 ) -> Result<usize, Refusal>
-    ensures { let p = page.now in
+    ensures { let f = settings_of profile.now in
+        let p = page.now in
         let ws = table.now in
         let b = out.old in
-        Filled (query_answer is_white p ws s.now (length b)) (query_buffer is_white p ws s.now b) result out.new }
+        Filled (query_answer f p ws s.now (length b)) (query_buffer f p ws s.now b) result out.new }
 {
-    match check(page, table) {
+    match check(profile, page, table) {
         Err(why) => table::refuse(out, why),
-        Ok(d) => select(&d, 0..d.count(), s, out),
+        Ok(c) => select(&c, 0..c.document.count(), s, out),
     }
 }
 
 // The nodes below a tag that a selector finds, in handle order.
 #[tactic(auto, unfolding(rules::specs::Answers::query_below_answer, rules::specs::Answers::query_below_buffer))]
 pub fn query_selector_below(
+    profile: &[u8; SIZE],
     page: &[u8],
     table: &[u32],
     h: usize,
     s: &[u8],
     out: &mut [u32],
 ) -> Result<usize, Refusal>
-    ensures { let p = page.now in
+    ensures { let f = settings_of profile.now in
+        let p = page.now in
         let ws = table.now in
         let b = out.old in
         let k = s.now in
-        Filled (query_below_answer is_white p ws h k (length b)) (query_below_buffer is_white p ws h k b) result out.new }
+        Filled (query_below_answer f p ws h k (length b)) (query_below_buffer f p ws h k b) result out.new }
 {
-    match check_tag(page, table, h) {
+    match check_tag(profile, page, table, h) {
         Err(why) => table::refuse(out, why),
-        Ok(d) => {
-            let last = d.row(h).last as usize;
+        Ok(c) => {
+            let last = c.document.row(h).last as usize;
             // `h + 1..=last` would be a type of its own, and a flag at each step.
-            select(&d, h + 1..last + 1, s, out)
+            select(&c, h + 1..last + 1, s, out)
         }
     }
 }

@@ -1,10 +1,9 @@
 -- A page and the table that its accepted reading left: the table's tags, parents and last handles are the reading's, and no
--- question to it is refused as 1 or 3, nor as 4 where it is about a tag.
+-- question to it is refused as 14, 1 or 3, nor as 4 where it is about a tag.
 use Rattle.std.proofs.Common.{Result}
 use Rattle.std.proofs.Common.{Ok}
 use Prim.Native.Nat.{ℕ, ◌≤◌, ◌<◌}
 use native.Mathlib.Omega.{arith}
-use mathlib.Core.Bool.{Bool}
 use mathlib.Core.Logic.{◌↔◌}
 use mathlib.Core.Path.{◌≡◌, ap, sym, ◌∙◌}
 use mathlib.Core.List.{List}
@@ -12,14 +11,15 @@ use lib.ListN.{length}
 use borrow.Author.Tests.{eq-eqb, lt-ltb}
 use Rattle.rules.specs.declared.Node.{Node}
 use Rattle.rules.specs.declared.Refusal.{Refusal}
-use Rattle.rules.specs.Reader.{node, read}
+use Rattle.rules.specs.Profile.{Settings}
+use Rattle.rules.specs.Reader.{node}
 use Rattle.rules.specs.Table.{node_at}
 use Rattle.rules.specs.Sound.{count_of, last_at}
 use Rattle.rules.specs.Lookup.{lookup}
 use Rattle.rules.specs.Text.{inner_text}
 use Rattle.rules.specs.Query.{over_page, below_tag}
 use Rattle.rules.specs.Refusals.{asking, asking_tag, counted}
-use Rattle.rules.specs.Answers.{selected, text_answer, attribute_answer, query_answer, query_below_answer}
+use Rattle.rules.specs.Answers.{reading, selected, text_answer, attribute_answer, query_answer, query_below_answer}
 use Rattle.laws.proofs.Nodes.{kind_in}
 use Rattle.laws.proofs.Nested.{Under, child, deeper}
 use Rattle.laws.proofs.Tree.{parents, page_nested, descendants}
@@ -27,9 +27,9 @@ use Rattle.laws.proofs.Tables.{Accepted}
 use Rattle.cut.specs.Cut.{IsTag, Descends}
 use Rattle.cut.specs.Cut as D
 
-module _ {white : ℕ → Bool} {void : List ℕ → Bool} {p ws : List ℕ} (A : Accepted white void p ws) where
+module _ {f : Settings} {p ws : List ℕ} (A : Accepted f p ws) where
   abbrev ns : List Node
-  ns = (read white void p).nodes
+  ns = (reading f p).nodes
 
   -- a tag of the table is a tag of the reading, with the same row
   pub tag_node_lem : (h : ℕ) → IsTag ws h → (node_at ws h ≡ node ns h) × ((node ns h).kind ≡ 1)
@@ -38,28 +38,28 @@ module _ {white : ℕ → Bool} {void : List ℕ → Bool} {p ws : List ℕ} (A 
   pub node_tag : (h : ℕ) → (node ns h).kind ≡ 1 → IsTag ws h
   node_tag h k = let l : h < length ns = kind_in ns h k in (omega (arith, A.counted), ap (λ (n : Node). n.kind) (A.row h l) ∙ k)
 
-  -- refusals 1, 3 and 4 do not come
-  asked : {B : Type 0} (b : Result B Refusal) → asking p ws b ≡ b
-  asked b = rw (A.short, A.sound_table)
+  -- refusals 14, 1, 3 and 4 do not come
+  asked : {B : Type 0} (b : Result B Refusal) → asking f p ws b ≡ b
+  asked b = rw (A.fine, A.short, A.sound_table)
 
-  asked_tag : {B : Type 0} (h : ℕ) (b : Result B Refusal) → IsTag ws h → asking_tag p ws h b ≡ b
-  asked_tag h b t = rw (A.short, A.sound_table, lt-ltb h (count_of ws) t.0, eq-eqb (node_at ws h).kind 1 t.1)
+  asked_tag : {B : Type 0} (h : ℕ) (b : Result B Refusal) → IsTag ws h → asking_tag f p ws h b ≡ b
+  asked_tag h b t = rw (A.fine, A.short, A.sound_table, lt-ltb h (count_of ws) t.0, eq-eqb (node_at ws h).kind 1 t.1)
 
-  pub attribute_is : (h : ℕ) (k : List ℕ) → IsTag ws h → attribute_answer white p ws h k ≡ Ok (lookup white p (node_at ws h) k)
+  pub attribute_is : (h : ℕ) (k : List ℕ) → IsTag ws h → attribute_answer f p ws h k ≡ Ok (lookup f.white p (node_at ws h) k)
   unfolding attribute_answer
-  attribute_is h k t = asked_tag h (Ok (lookup white p (node_at ws h) k)) t
+  attribute_is h k t = asked_tag h (Ok (lookup f.white p (node_at ws h) k)) t
 
-  pub text_is : (h m : ℕ) → IsTag ws h → text_answer white p ws h m ≡ counted m (length (inner_text p ws h))
+  pub text_is : (h m : ℕ) → IsTag ws h → text_answer f p ws h m ≡ counted m (length (inner_text p ws h))
   unfolding text_answer
   text_is h m t = asked_tag h (counted m (length (inner_text p ws h))) t
 
-  pub query_is : (s : List ℕ) (m : ℕ) → query_answer white p ws s m ≡ selected (over_page white p ws s) s m
+  pub query_is : (s : List ℕ) (m : ℕ) → query_answer f p ws s m ≡ selected (over_page f.white p ws s) s m
   unfolding query_answer
-  query_is s m = asked (selected (over_page white p ws s) s m)
+  query_is s m = asked (selected (over_page f.white p ws s) s m)
 
-  pub below_is : (h : ℕ) (s : List ℕ) (m : ℕ) → IsTag ws h → query_below_answer white p ws h s m ≡ selected (below_tag white p ws s h) s m
+  pub below_is : (h : ℕ) (s : List ℕ) (m : ℕ) → IsTag ws h → query_below_answer f p ws h s m ≡ selected (below_tag f.white p ws s h) s m
   unfolding query_below_answer
-  below_is h s m t = asked_tag h (selected (below_tag white p ws s h) s m) t
+  below_is h s m t = asked_tag h (selected (below_tag f.white p ws s h) s m) t
 
   -- the table's parents and last handles are the reading's
   to_under : {h d : ℕ} → Descends ws h d → (d < count_of ws) × Under (parents ns) h d
@@ -71,7 +71,7 @@ module _ {white : ℕ → Bool} {void : List ℕ → Bool} {p ws : List ℕ} (A 
   from_under {d = d} l (child e) = D.child l (ap (λ (n : Node). n.parent) (A.row d (omega (arith, A.counted))) ∙ e)
   from_under {d = d} l (deeper {m = m} e u) =
       D.deeper l (ap (λ (n : Node). n.parent) (A.row d (omega (arith, A.counted))) ∙ e)
-      (from_under (omega (arith, A.counted, (page_nested white void p).lower d (omega (arith, A.counted)))) u)
+      (from_under (omega (arith, A.counted, (page_nested f.white f.void p).lower d (omega (arith, A.counted)))) u)
 
   pub last_is : (h : ℕ) → IsTag ws h → last_at ws h ≡ (node ns h).last
   last_is h t = ap (λ (n : Node). n.last) (tag_node_lem h t).0
@@ -79,7 +79,7 @@ module _ {white : ℕ → Bool} {void : List ℕ → Bool} {p ws : List ℕ} (A 
   pub descends : (h : ℕ) → IsTag ws h → (d : ℕ) → Descends ws h d ↔ ((h < d) × (d ≤ last_at ws h))
   descends h t d =
       let e : last_at ws h ≡ (node ns h).last = last_is h t in
-      let k : (node ns h).last < length ns = (page_nested white void p).inside h (omega (arith, A.counted, t.0)) in (
-        λ u. let r = (descendants white void p h d).0 (to_under u).1 in (r.0, omega (arith, r.1)),
-        λ r. from_under (omega (arith, A.counted, r.1)) ((descendants white void p h d).1 (r.0, omega (arith, r.1))),
+      let k : (node ns h).last < length ns = (page_nested f.white f.void p).inside h (omega (arith, A.counted, t.0)) in (
+        λ u. let r = (descendants f.white f.void p h d).0 (to_under u).1 in (r.0, omega (arith, r.1)),
+        λ r. from_under (omega (arith, A.counted, r.1)) ((descendants f.white f.void p h d).1 (r.0, omega (arith, r.1))),
       )

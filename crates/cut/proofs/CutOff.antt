@@ -3,7 +3,7 @@
 use Rattle.std.proofs.Common.{Ok}
 use Prim.Native.Nat.{ℕ, suc, ◌-◌, ◌≤◌, ◌<◌}
 use native.Mathlib.Omega.{arith}
-use mathlib.Core.Bool.{Bool, true}
+use mathlib.Core.Bool.{true}
 use mathlib.Core.Path.{◌≡◌, refl, ap, sym, ◌∙◌}
 use mathlib.Core.List.{List}
 use lib.Dec.{ltb}
@@ -15,13 +15,14 @@ use Rattle.rules.specs.declared.Piece.{Piece}
 use Rattle.rules.specs.declared.Simple.{Simple}
 use Rattle.rules.specs.declared.Held.{Held}
 use Rattle.rules.specs.declared.Held.TheVariants.{Absent, Bare, Value}
-use Rattle.rules.specs.Reader.{node, read}
+use Rattle.rules.specs.Profile.{Settings}
+use Rattle.rules.specs.Reader.{node}
 use Rattle.rules.specs.Table.{node_at}
 use Rattle.rules.specs.Sound.{count_of, last_at, tagged, is_tag}
 use Rattle.rules.specs.Lookup.{Inside, answer, lookup}
 use Rattle.rules.specs.Query.{name_of, tag_fits, node_fits, meaning, matches, over_page, below_tag}
 use Rattle.rules.specs.Refusals.{held_part, asked_part}
-use Rattle.rules.specs.Answers.{attribute_answer, attribute_part, query_answer, query_buffer, query_below_answer, query_below_buffer}
+use Rattle.rules.specs.Answers.{reading, attribute_answer, attribute_part, query_answer, query_buffer, query_below_answer, query_below_buffer}
 use Rattle.rules.proofs.Lookup.{inside_more, lookup_inside}
 use Rattle.laws.proofs.CutLexer.{part_cut}
 use Rattle.laws.proofs.Nodes.{kind_in}
@@ -38,30 +39,30 @@ is_tag_lem : (ws : List ℕ) (h : ℕ) → is_tag ws h ≡ true → IsTag ws h
 is_tag_lem ws h e =
     let r = and_parts (ltb h (count_of ws)) (tagged (node_at ws h)) e in (ltb-true h (count_of ws) r.0, eqb-true (node_at ws h).kind 1 r.1)
 
-module _ (white : ℕ → Bool) (void : List ℕ → Bool) (p : List ℕ) (n : ℕ) (hn : n ≤ length p) where
+module _ (f : Settings) (p : List ℕ) (n : ℕ) (hn : n ≤ length p) where
   -- the beginning, its nodes, and those of the whole page
   abbrev q : List ℕ
   q = take n p
 
   abbrev first : List Node
-  first = (read white void q).nodes
+  first = (reading f q).nodes
 
   abbrev all : List Node
-  all = (read white void p).nodes
+  all = (reading f p).nodes
 
   G : Agree n p first all
-  G = agree white void p n hn
+  G = agree f.white f.void p n hn
 
   -- a tag of the beginning below h there is below h in the whole page, and the other way round
   reach_kept : (h d : ℕ) → (node first d).kind ≡ 1 → h < d → d ≤ (node first h).last → d ≤ (node all h).last
-  reach_kept h d e l r = reach_same white void q p h d l (kind_in first d e) (λ m b. G.parents d m e b) r
+  reach_kept h d e l r = reach_same f.white f.void q p h d l (kind_in first d e) (λ m b. G.parents d m e b) r
 
   reach_found : (h d : ℕ) → (node first d).kind ≡ 1 → h < d → d ≤ (node all h).last → d ≤ (node first h).last
   reach_found h d e l r =
       let k : d < length all = kind_in all d (sym (G.kept d e).kind ∙ e) in
-      reach_same white void p q h d l k (λ m b. sym (G.parents d m e b)) r
+      reach_same f.white f.void p q h d l k (λ m b. sym (G.parents d m e b)) r
 
-  module _ {ws vs : List ℕ} (A : Accepted white void q ws) (B : Accepted white void p vs) where
+  module _ {ws vs : List ℕ} (A : Accepted f q ws) (B : Accepted f p vs) where
     -- ---- clause 1
 
     in_whole : (h : ℕ) → IsTag ws h → IsTag vs h × ((node_at vs h).opened ≤ n)
@@ -95,14 +96,14 @@ module _ (white : ℕ → Bool) (void : List ℕ → Bool) (p : List ℕ) (n : �
 
       -- ---- clause 2
 
-      same_lookup : (k : List ℕ) → lookup white q (node_at ws h) k ≡ lookup white p (node_at vs h) k
+      same_lookup : (k : List ℕ) → lookup f.white q (node_at ws h) k ≡ lookup f.white p (node_at vs h) k
       same_lookup k = rw (row, whole_row, G.opening h is_one, (G.kept h is_one).stop)
 
-      same_answer : (k : List ℕ) → answer white q (node_at ws h) k ≡ answer white p (node_at vs h) k
+      same_answer : (k : List ℕ) → answer f.white q (node_at ws h) k ≡ answer f.white p (node_at vs h) k
       unfolding answer
       same_answer k = rw (row, whole_row, G.opening h is_one, (G.kept h is_one).stop)
 
-      same_attribute : (k : List ℕ) → attribute_answer white q ws h k ≡ attribute_answer white p vs h k
+      same_attribute : (k : List ℕ) → attribute_answer f q ws h k ≡ attribute_answer f p vs h k
       same_attribute k = attribute_is A h k t ∙ (ap Ok (same_lookup k) ∙ sym (attribute_is B h k (in_whole h t).0))
 
       -- a value lies before word 5, so before the cut
@@ -111,67 +112,67 @@ module _ (white : ℕ → Bool) (void : List ℕ → Bool) (p : List ℕ) (n : �
       same_part Bare i = refl
       same_part (Value a e) i = part_cut p n a e i.1
 
-      before_cut : (k : List ℕ) → Inside n (lookup white q (node_at ws h) k)
+      before_cut : (k : List ℕ) → Inside n (lookup f.white q (node_at ws h) k)
       before_cut k =
           let r : List ℕ = take (node_at ws h).opened q in
           let l : length r ≤ n = omega (arith, length-take (node_at ws h).opened q, length-take n p) in
-          inside_more (length r) n (lookup white q (node_at ws h) k) l (lookup_inside white r (node_at ws h).stop k)
+          inside_more (length r) n (lookup f.white q (node_at ws h) k) l (lookup_inside f.white r (node_at ws h).stop k)
 
-      same_value : (k : List ℕ) → attribute_part white q ws h k ≡ attribute_part white p vs h k
+      same_value : (k : List ℕ) → attribute_part f q ws h k ≡ attribute_part f p vs h k
       unfolding attribute_part
       same_value k =
           ap (asked_part q) (attribute_is A h k t)
-          ∙ (same_part (lookup white q (node_at ws h) k) (before_cut k)
+          ∙ (same_part (lookup f.white q (node_at ws h) k) (before_cut k)
           ∙ (ap (held_part p) (same_lookup k) ∙ sym (ap (asked_part p) (attribute_is B h k (in_whole h t).0))))
 
       -- ---- clause 3: a tag fits the same selectors
 
-      same_fits : (s : List ℕ) (x : Simple) → node_fits white q s (node_at ws h) x ≡ node_fits white p s (node_at vs h) x
+      same_fits : (s : List ℕ) (x : Simple) → node_fits f.white q s (node_at ws h) x ≡ node_fits f.white p s (node_at vs h) x
       same_fits s x =
           let one : (node_at vs h).kind ≡ 1 = (in_whole h t).0.1 in
           rw (eq-eqb (node_at ws h).kind 1 t.1, eq-eqb (node_at vs h).kind 1 one)
           (λ i. tag_fits s (same_name i) (λ k. same_answer k i) x)
 
-      same_match : (s : List ℕ) (ps : List Piece) → matches white q ws s ps h ≡ matches white p vs s ps h
+      same_match : (s : List ℕ) (ps : List Piece) → matches f.white q ws s ps h ≡ matches f.white p vs s ps h
       same_match s ps = λ i. meaning (λ x. same_fits s x i) ps
 
-    over_page_lem : (s : List ℕ) (ps : List Piece) → only (is_tag ws) (over_page white q ws s ps) ≡ only (is_tag ws) (over_page white p vs s ps)
+    over_page_lem : (s : List ℕ) (ps : List Piece) → only (is_tag ws) (over_page f.white q ws s ps) ≡ only (is_tag ws) (over_page f.white p vs s ps)
     over_page_lem s ps =
-        same_finds (is_tag ws) (matches white q ws s ps) (matches white p vs s ps) 0 (count_of ws) (count_of vs)
+        same_finds (is_tag ws) (matches f.white q ws s ps) (matches f.white p vs s ps) 0 (count_of ws) (count_of vs)
         (λ h e. same_match h (is_tag_lem ws h e) s ps)
         (λ h e l b. omega (arith, (in_whole h (is_tag_lem ws h e)).0.0))
         (λ h e l b. omega (arith, (is_tag_lem ws h e).0))
 
     below_tag_lem : (h : ℕ) → IsTag ws h → (s : List ℕ) (ps : List Piece)
-        → only (is_tag ws) (below_tag white q ws s h ps) ≡ only (is_tag ws) (below_tag white p vs s h ps)
+        → only (is_tag ws) (below_tag f.white q ws s h ps) ≡ only (is_tag ws) (below_tag f.white p vs s h ps)
     below_tag_lem h t s ps =
         let a : last_at ws h ≡ (node first h).last = last_is A h t in
         let b : last_at vs h ≡ (node all h).last = last_is B h (in_whole h t).0 in
-        same_finds (is_tag ws) (matches white q ws s ps) (matches white p vs s ps) (suc h) (last_at ws h - h) (last_at vs h - h)
+        same_finds (is_tag ws) (matches f.white q ws s ps) (matches f.white p vs s ps) (suc h) (last_at ws h - h) (last_at vs h - h)
         (λ d e. same_match d (is_tag_lem ws d e) s ps)
         (λ d e l c. omega (arith, reach_kept h d (tag_node_lem A d (is_tag_lem ws d e)).1 l (omega arith)))
         (λ d e l c. omega (arith, reach_found h d (tag_node_lem A d (is_tag_lem ws d e)).1 l (omega arith)))
 
-    same_query : (s out out' : List ℕ) → Enough (query_answer white q ws s (length out)) → Enough (query_answer white p vs s (length out'))
-        → Alike ws (query_answer white q ws s (length out)) (query_buffer white q ws s out)
-        (query_answer white p vs s (length out')) (query_buffer white p vs s out')
+    same_query : (s out out' : List ℕ) → Enough (query_answer f q ws s (length out)) → Enough (query_answer f p vs s (length out'))
+        → Alike ws (query_answer f q ws s (length out)) (query_buffer f q ws s out)
+        (query_answer f p vs s (length out')) (query_buffer f p vs s out')
     unfolding query_buffer
     same_query s out out' d e =
         let a = query_is A s (length out) in
         let b = query_is B s (length out') in
-        rw (a, b) (selected_alike ws (over_page white q ws s) (over_page white p vs s) (over_page_lem s) out out' s (rw a at d) (rw b at e))
+        rw (a, b) (selected_alike ws (over_page f.white q ws s) (over_page f.white p vs s) (over_page_lem s) out out' s (rw a at d) (rw b at e))
 
     same_below : (h : ℕ) → IsTag ws h → (s out out' : List ℕ)
-        → Enough (query_below_answer white q ws h s (length out)) → Enough (query_below_answer white p vs h s (length out'))
-        → Alike ws (query_below_answer white q ws h s (length out)) (query_below_buffer white q ws h s out)
-        (query_below_answer white p vs h s (length out')) (query_below_buffer white p vs h s out')
+        → Enough (query_below_answer f q ws h s (length out)) → Enough (query_below_answer f p vs h s (length out'))
+        → Alike ws (query_below_answer f q ws h s (length out)) (query_below_buffer f q ws h s out)
+        (query_below_answer f p vs h s (length out')) (query_below_buffer f p vs h s out')
     unfolding query_below_buffer
     same_below h t s out out' d e =
         let a = below_is A h s (length out) t in
         let b = below_is B h s (length out') (in_whole h t).0 in
-        rw (a, b) (selected_alike ws (below_tag white q ws s h) (below_tag white p vs s h) (below_tag_lem h t s) out out' s (rw a at d) (rw b at e))
+        rw (a, b) (selected_alike ws (below_tag f.white q ws s h) (below_tag f.white p vs s h) (below_tag_lem h t s) out out' s (rw a at d) (rw b at e))
 
-    all_clauses : CutOff white n q ws p vs
+    all_clauses : CutOff f n q ws p vs
     all_clauses =
         record {
           tags = λ h. (in_whole h, λ r. in_beginning h r.0 r.1);
@@ -188,4 +189,4 @@ module _ (white : ℕ → Bool) (void : List ℕ → Bool) (p : List ℕ) (n : �
 
 -- the theorem
 pub cut_off : CutTheorem
-cut_off white void p n hn t u k m e f = all_clauses white void p n hn (accepted white void (take n p) t k e) (accepted white void p u m f)
+cut_off f p n hn t u k m a b = all_clauses f p n hn (accepted f (take n p) t k a) (accepted f p u m b)

@@ -1,11 +1,11 @@
--- Texts of broken-off tags, and how a tag ended, as the public calls' definitions compute them: pages cut at some of their bytes.
+-- Texts of broken-off tags, and how a tag ended, as the public calls' definitions compute them, without a profile: pages cut at some of their bytes.
 use Prim.Native.Nat.{ℕ}
 use mathlib.Core.Path.{◌≡◌, refl}
 use mathlib.Core.List.{List, [], ◌∷◌, map}
 use lib.ListN.{take, replicate}
 use Rattle.rules.specs.Ascii.{bytes}
-use Rattle.rules.specs.Bytes.{is_white}
-use Rattle.rules.specs.Names.{is_void, one_of}
+use Rattle.rules.specs.Names.{one_of}
+use Rattle.rules.specs.Profile.{base}
 use Rattle.rules.specs.Scan.{span, agree}
 use Rattle.rules.specs.Lists.{from, each}
 use Rattle.rules.specs.Attributes.{attributes_end}
@@ -18,11 +18,11 @@ use Rattle.cut.specs.Text.{given}
 
 -- five rows are enough
 abbrev table : List ℕ → List ℕ
-table p = parse_table is_white is_void p (replicate (row_at 5) 0)
+table p = parse_table base p (replicate (row_at 5) 0)
 
 -- the text of the page's first tag in its first n bytes
 abbrev text_to : List ℕ → ℕ → List ℕ
-text_to p n = given is_white (take n p) (table (take n p)) 0 (replicate 4 0)
+text_to p n = given base (take n p) (table (take n p)) 0 (replicate 4 0)
 
 -- the end of its last descendant in the whole page, and its own
 abbrev ends : List ℕ → List ℕ

@@ -2,7 +2,6 @@
 use Rattle.std.proofs.Common.{Result, Ok}
 use Prim.Native.Nat.{ℕ, suc, ◌-◌, ◌≤◌, ◌<◌}
 use native.Mathlib.Omega.{arith}
-use mathlib.Core.Bool.{Bool}
 use mathlib.Core.Path.{◌≡◌, ap, sym, ◌∙◌}
 use mathlib.Core.List.{List}
 use lib.Dec.{ltb}
@@ -10,12 +9,13 @@ use lib.ListN.{length, take, drop}
 use lib.Seq.{take-append_seam}
 use Rattle.rules.specs.Lists.{from}
 use Rattle.rules.specs.declared.Node.{Node}
-use Rattle.rules.specs.Reader.{node, read}
+use Rattle.rules.specs.Profile.{Settings}
+use Rattle.rules.specs.Reader.{node}
 use Rattle.rules.specs.Table.{node_at}
 use Rattle.rules.specs.Sound.{last_at}
 use Rattle.rules.specs.Text.{text_at, inner_text}
 use Rattle.rules.specs.Refusals.{filled_by}
-use Rattle.rules.specs.Answers.{text_answer, text_buffer}
+use Rattle.rules.specs.Answers.{reading, text_answer, text_buffer}
 use Rattle.rules.proofs.All.{all_from, each_same}
 use Rattle.laws.proofs.Tree.{page_nested}
 use Rattle.laws.proofs.Tables.{Accepted, accepted}
@@ -27,12 +27,12 @@ use Rattle.cut.proofs.TextNodes.{node_text, nodes_text, text_prefix, text_same}
 use Rattle.cut.proofs.CutOff.{cut_off}
 use Rattle.rules.specs.declared.Refusal.{Refusal}
 
-module _ {white : ℕ → Bool} {void : List ℕ → Bool} {p ws : List ℕ} (A : Accepted white void p ws) (h : ℕ) (t : IsTag ws h) where
+module _ {f : Settings} {p ws : List ℕ} (A : Accepted f p ws) (h : ℕ) (t : IsTag ws h) where
   abbrev ns : List Node
-  ns = (read white void p).nodes
+  ns = (reading f p).nodes
 
   last_in : (node ns h).last < length ns
-  last_in = (page_nested white void p).inside h (omega (arith, A.counted, t.0))
+  last_in = (page_nested f.white f.void p).inside h (omega (arith, A.counted, t.0))
 
   -- the inner text by the table is that by the nodes
   by_nodes : inner_text p ws h ≡ nodes_text p ns h
@@ -44,12 +44,12 @@ module _ {white : ℕ → Bool} {void : List ℕ → Bool} {p ws : List ℕ} (A 
       (λ d a b. let e : node_at ws d ≡ node ns d = A.row d (omega (arith, last_in)) in rw e)))
 
   -- the call gives it, if it has room
-  gives_text : (out : List ℕ) → Room white p ws h out → Gives white p ws h out
+  gives_text : (out : List ℕ) → Room f p ws h out → Gives f p ws h out
   unfolding text_buffer
   gives_text out e =
       let x : List ℕ = inner_text p ws h in
       let a = text_is A h (length out) t in
-      let c : text_answer white p ws h (length out) ≡ Ok (length x) = a ∙ fits_found (ltb (length out) (length x)) x (rw a at e) in
+      let c : text_answer f p ws h (length out) ≡ Ok (length x) = a ∙ fits_found (ltb (length out) (length x)) x (rw a at e) in
       record { answer = c; text = ap (λ (r : Result ℕ Refusal). found r (filled_by out x r)) c ∙ take-append_seam x (drop (length x) out) }
 
   -- the last descendant is the one that word 7 names
@@ -64,30 +64,30 @@ module _ {white : ℕ → Bool} {void : List ℕ → Bool} {p ws : List ℕ} (A 
   no_last : ((d : ℕ) → Descends ws h d → ⊥) → h < (node ns h).last → ⊥
   no_last none l = none (last_at ws h) ((descends A h t (last_at ws h)).1 (omega (arith, last_is A h t)))
 
-module _ (white : ℕ → Bool) (void : List ℕ → Bool) (p : List ℕ) (n : ℕ) (hn : n ≤ length p) {ws vs : List ℕ}
-    (A : Accepted white void (take n p) ws) (B : Accepted white void p vs) (h : ℕ) (i : IsTag ws h) (j : IsTag vs h)
-    (out out' : List ℕ) (d : Room white (take n p) ws h out) (g : Room white p vs h out') where
-  one : (node (read white void (take n p)).nodes h).kind ≡ 1
+module _ (f : Settings) (p : List ℕ) (n : ℕ) (hn : n ≤ length p) {ws vs : List ℕ}
+    (A : Accepted f (take n p) ws) (B : Accepted f p vs) (h : ℕ) (i : IsTag ws h) (j : IsTag vs h)
+    (out out' : List ℕ) (d : Room f (take n p) ws h out) (g : Room f p vs h out') where
+  one : (node (reading f (take n p)).nodes h).kind ≡ 1
   one = (tag_node_lem A h i).1
 
-  text : given white (take n p) ws h out ≡ nodes_text (take n p) (read white void (take n p)).nodes h
+  text : given f (take n p) ws h out ≡ nodes_text (take n p) (reading f (take n p)).nodes h
   text = (gives_text A h i out d).text ∙ by_nodes A h i
 
-  text_whole : given white p vs h out' ≡ nodes_text p (read white void p).nodes h
+  text_whole : given f p vs h out' ≡ nodes_text p (reading f p).nodes h
   text_whole = (gives_text B h j out' g).text ∙ by_nodes B h j
 
-  text_cut : TextCut white n (take n p) ws p vs h out out'
+  text_cut : TextCut f n (take n p) ws p vs h out out'
   text_cut =
       record {
         gives = gives_text A h i out d;
         gives_whole = gives_text B h j out' g;
-        begins = rw (text, text_whole) (text_prefix white void p n hn h one);
-        ended = λ x b e. text ∙ text_same white void p n hn h one (λ r. omega (arith, last_end B h j x b)) ∙ sym text_whole;
-        empty = λ e. text ∙ text_same white void p n hn h one (λ r. absurd (no_last B h j e r)) ∙ sym text_whole;
+        begins = rw (text, text_whole) (text_prefix f.white f.void p n hn h one);
+        ended = λ x b e. text ∙ text_same f.white f.void p n hn h one (λ r. omega (arith, last_end B h j x b)) ∙ sym text_whole;
+        empty = λ e. text ∙ text_same f.white f.void p n hn h one (λ r. absurd (no_last B h j e r)) ∙ sym text_whole;
       }
 
 -- U14
 pub text_begins : TextPrefix
-text_begins white void p n hn t u k m e f h i out out' d g =
-    text_cut white void p n hn (accepted white void (take n p) t k e) (accepted white void p u m f) h i
-    (((cut_off white void p n hn t u k m e f).tags h).0 i).0 out out' d g
+text_begins f p n hn t u k m a b h i out out' d g =
+    text_cut f p n hn (accepted f (take n p) t k a) (accepted f p u m b) h i
+    (((cut_off f p n hn t u k m a b).tags h).0 i).0 out out' d g

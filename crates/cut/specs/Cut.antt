@@ -1,6 +1,7 @@
 -- A page cut off: what the public calls answer for a page's first n bytes, and for the whole page.
-use Rattle.std.specs.Prelude.{ℕ, suc, ◌≤◌, ◌<◌, Bool, ◌↔◌, ◌≡◌, List, [], length, take, Result, Ok, Err}
+use Rattle.std.specs.Prelude.{ℕ, suc, ◌≤◌, ◌<◌, ◌↔◌, ◌≡◌, List, [], length, take, Result, Ok, Err}
 use Rattle.rules.specs.Lists.{only}
+use Rattle.rules.specs.Profile.{Settings}
 use Rattle.rules.specs.Table.{node_at}
 use Rattle.rules.specs.Sound.{count_of, last_at, is_tag}
 use Rattle.rules.specs.Query.{name_of}
@@ -37,7 +38,7 @@ pub record Alike (ws : List ℕ) (a : Result ℕ Refusal) (out : List ℕ) (b : 
 
 -- q is the beginning, of n bytes, of the page p; ws and vs are their tables, each as its own reading left it. There is no clause on a
 -- tag's end, nor on how it ended (word 8): a cut may turn 1 into 0 or 2, and 0 and 2 into each other (proofs/Examples).
-pub record CutOff (white : ℕ → Bool) (n : ℕ) (q ws p vs : List ℕ) : Type 0 where
+pub record CutOff (f : Settings) (n : ℕ) (q ws p vs : List ℕ) : Type 0 where
   -- 1. the beginning's tags are the whole page's whose opening `>` lies before the cut: word 5 is the place after it
   pub tags : (h : ℕ) → IsTag ws h ↔ (IsTag vs h × ((node_at vs h).opened ≤ n))
   -- each with the same start, name and parent
@@ -45,23 +46,23 @@ pub record CutOff (white : ℕ → Bool) (n : ℕ) (q ws p vs : List ℕ) : Type
   pub name : (h : ℕ) → IsTag ws h → name_of q (node_at ws h) ≡ name_of p (node_at vs h)
   pub parent : (h : ℕ) → IsTag ws h → (node_at ws h).parent ≡ (node_at vs h).parent
   -- 2. the same answer for every attribute name, and the same value bytes
-  pub attribute : (h : ℕ) → IsTag ws h → (k : List ℕ) → attribute_answer white q ws h k ≡ attribute_answer white p vs h k
-  pub value : (h : ℕ) → IsTag ws h → (k : List ℕ) → attribute_part white q ws h k ≡ attribute_part white p vs h k
+  pub attribute : (h : ℕ) → IsTag ws h → (k : List ℕ) → attribute_answer f q ws h k ≡ attribute_answer f p vs h k
+  pub value : (h : ℕ) → IsTag ws h → (k : List ℕ) → attribute_part f q ws h k ≡ attribute_part f p vs h k
   -- 3. the same finds for every selector, over the page and below a tag, with enough space in both
-  pub query : (s out out' : List ℕ) → Enough (query_answer white q ws s (length out)) → Enough (query_answer white p vs s (length out'))
-      → Alike ws (query_answer white q ws s (length out)) (query_buffer white q ws s out)
-      (query_answer white p vs s (length out')) (query_buffer white p vs s out')
+  pub query : (s out out' : List ℕ) → Enough (query_answer f q ws s (length out)) → Enough (query_answer f p vs s (length out'))
+      → Alike ws (query_answer f q ws s (length out)) (query_buffer f q ws s out)
+      (query_answer f p vs s (length out')) (query_buffer f p vs s out')
   pub below : (h : ℕ) → IsTag ws h → (s out out' : List ℕ)
-      → Enough (query_below_answer white q ws h s (length out)) → Enough (query_below_answer white p vs h s (length out'))
-      → Alike ws (query_below_answer white q ws h s (length out)) (query_below_buffer white q ws h s out)
-      (query_below_answer white p vs h s (length out')) (query_below_buffer white p vs h s out')
+      → Enough (query_below_answer f q ws h s (length out)) → Enough (query_below_answer f p vs h s (length out'))
+      → Alike ws (query_below_answer f q ws h s (length out)) (query_below_buffer f q ws h s out)
+      (query_below_answer f p vs h s (length out')) (query_below_buffer f p vs h s out')
   -- 4. a tag's descendants, by parent, are the handles after its own up to its last, in either page
   pub descendants : (h : ℕ) → IsTag ws h → (d : ℕ) → Descends ws h d ↔ ((h < d) × (d ≤ last_at ws h))
   pub descendants_whole : (h : ℕ) → IsTag vs h → (d : ℕ) → Descends vs h d ↔ ((h < d) × (d ≤ last_at vs h))
 
--- The theorem: for every page of bytes, every cut, every white and void test and any two tables on which both readings are accepted.
+-- The theorem: for every page of bytes, every cut, whatever a profile sets and any two tables on which both readings are accepted.
 abbrev pub CutTheorem : Type 0
 CutTheorem =
-    (white : ℕ → Bool) (void : List ℕ → Bool) (p : List ℕ) (n : ℕ) → n ≤ length p
-    → (t u : List ℕ) (k m : ℕ) → parse_answer white void (take n p) (length t) ≡ Ok k → parse_answer white void p (length u) ≡ Ok m
-    → CutOff white n (take n p) (parse_table white void (take n p) t) p (parse_table white void p u)
+    (f : Settings) (p : List ℕ) (n : ℕ) → n ≤ length p
+    → (t u : List ℕ) (k m : ℕ) → parse_answer f (take n p) (length t) ≡ Ok k → parse_answer f p (length u) ≡ Ok m
+    → CutOff f n (take n p) (parse_table f (take n p) t) p (parse_table f p u)

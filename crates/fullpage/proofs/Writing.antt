@@ -9,11 +9,11 @@ use lib.Dec.{leb}
 use lib.ListN.{length, take, drop, length-take}
 use lib.Seq.{take_all}
 use borrow.Author.Tests.{leb-true, lt-leb, ne_eqb}
-use Rattle.rules.specs.Bytes.{is, is_white}
-use Rattle.rules.specs.Names.{is_void}
+use Rattle.rules.specs.Bytes.{is}
 use Rattle.rules.specs.Scan.{pick, here}
 use Rattle.rules.specs.Buffers.{Wrote}
-use Rattle.rules.specs.Refusals.{page_limit}
+use Rattle.rules.specs.Profile.{page_limit, tl_profile}
+use Rattle.rules.proofs.Profile.{fine_tl, limit_tl}
 use Rattle.std.proofs.lemmas.Bool.{and_parts}
 use Rattle.decimal.specs.Digits.{number_at}
 use Rattle.std.proofs.Common.{Option, Some, None}
@@ -62,7 +62,7 @@ seven s = go (dec_le 7 (length s))
 pub full_page : FullPage
 full_page =
     record {
-      page = λ s n e. rw e (node_bound.attained is_white is_void node_bound.rust n (asked_short s n e));
+      page = λ s n e. rw e (node_bound.attained tl_profile fine_tl n (rw limit_tl (asked_short s n e)));
       seven = seven;
     }
 

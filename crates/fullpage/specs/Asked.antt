@@ -2,10 +2,9 @@
 use Rattle.std.specs.Prelude.{ℕ, suc, Bool, ◌&&◌, ◌||◌, ◌≡◌, List, length, take, eqb, leb, Option, Some, None}
 use Rattle.std.specs.Option.{option_and_then}
 use Rattle.rules.specs.Ascii.{bytes}
-use Rattle.rules.specs.Bytes.{is, is_white}
-use Rattle.rules.specs.Names.{is_void}
+use Rattle.rules.specs.Bytes.{is}
 use Rattle.rules.specs.Scan.{pick, here}
-use Rattle.rules.specs.Refusals.{page_limit}
+use Rattle.rules.specs.Profile.{page_limit, settings_of, tl_profile}
 use Rattle.decimal.specs.Digits.{number_at}
 use Rattle.maxnodes.specs.Bound.{densest, Attains}
 
@@ -26,8 +25,8 @@ abbrev pub answer_text : Option ℕ → List ℕ
 answer_text (Some n) = densest n
 answer_text None = bytes "refused"
 
--- what is written where a page is asked for has the most nodes, under the Rust's white and void tests; and seven bytes of the
+-- what is written where a page is asked for has the most nodes, under the Rust's profile; and seven bytes of the
 -- input are enough to tell what is asked
 pub record FullPage : Type 0 where
-  pub page : (s : List ℕ) (n : ℕ) → asked s ≡ Some n → Attains is_white is_void n (answer_text (asked s))
+  pub page : (s : List ℕ) (n : ℕ) → asked s ≡ Some n → Attains (settings_of tl_profile) n (answer_text (asked s))
   pub seven : (s : List ℕ) → asked (take 7 s) ≡ asked s

@@ -4,7 +4,7 @@
 #![tactic(auto)]
 
 ghost use Rattle.std.specs.Prelude.{◌≡◌, ◌≤◌, length};
-ghost use Rattle.rules.specs.Refusals.{page_limit};
+ghost use Rattle.rules.specs.Profile.{page_limit};
 ghost use Rattle.rules.specs.Buffers.{Wrote};
 ghost use Rattle.fullpage.specs.Asked.{ending, asked, answer_text};
 

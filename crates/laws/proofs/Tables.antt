@@ -11,13 +11,14 @@ use lib.Dec.{eqb, ltb}
 use lib.ListN.{length, get_or}
 use Rattle.rules.specs.Scan.{pick, part, same}
 use Rattle.rules.specs.Lexer.{item_at}
-use Rattle.rules.specs.Reader.{Reading, no_node, node, close_into, put, step, steps, begin, read}
+use Rattle.rules.specs.Profile.{Settings}
+use Rattle.rules.specs.Reader.{Reading, no_node, node, close_into, put, step, steps, begin}
 use Rattle.rules.specs.Table.{head_words, row_at, node_at, head_of, filled, Filled}
 use Rattle.rules.specs.Sound.{reaching, last_at, parent_at, row_sound, head_sound, count_of, sound}
-use Rattle.rules.specs.Refusals.{page_too_long}
-use Rattle.rules.specs.Answers.{parse_answer, parsed_table, parse_table}
+use Rattle.rules.specs.Refusals.{profile_not_fine, page_too_long}
+use Rattle.rules.specs.Answers.{reading, parse_answer, parsed_table, parse_table}
 use Rattle.rules.specs.declared.Item.{Item}
-use Rattle.rules.specs.declared.Refusal.TheVariants.{PageTooLong, TableTooSmall}
+use Rattle.rules.specs.declared.Refusal.TheVariants.{ProfileNotFine, PageTooLong, TableTooSmall}
 use Rattle.rules.specs.declared.Item.TheVariants.{Text, Close, Comment, Doctype, Tag, Nothing}
 use Rattle.rules.specs.declared.Node.{Node}
 use Rattle.rules.proofs.Table.{filled_size, filled_node}
@@ -116,47 +117,52 @@ module _ (len v : ℕ) {ws t : List ℕ} {ns : List Node} (S : Sound len ns) (F 
       (le-leb (row_at (count_of ws)) (length ws) (rw counts (omega (arith, filled_size F, F.fits))))
       (rw counts (all_from (row_sound len ws (length ns)) (length ns) row_right))
 
-module _ (white : ℕ → Bool) (void : List ℕ → Bool) (p : List ℕ) where
+module _ (f : Settings) (p : List ℕ) where
   abbrev page : Reading
-  page = read white void p
+  page = reading f p
 
   abbrev count : ℕ
   count = length page.nodes
 
   -- the table of a page's reading is sound
   pub page_table_sound : {ws t : List ℕ} → Filled ws t (head_of count page.version (length p)) page.nodes → sound (length p) ws ≡ true
-  page_table_sound F = sound_filled (length p) page.version (page_sound white void p) F (steps_known white void p (length p) begin refl)
+  page_table_sound F =
+      sound_filled (length p) page.version (page_sound f.white f.void p) F (steps_known f.white f.void p (length p) begin refl)
 
-  -- the answer, by the tests of refusals 1 and 2
-  abbrev parsed : Bool → Bool → Result ℕ Refusal
-  parsed a b = pick a (Err PageTooLong) (pick b (Err TableTooSmall) (Ok count))
+  -- the answer, by the tests of refusals 14, 1 and 2
+  abbrev parsed : Bool → Bool → Bool → Result ℕ Refusal
+  parsed a b c = pick a (Err ProfileNotFine) (pick b (Err PageTooLong) (pick c (Err TableTooSmall) (Ok count)))
 
   -- what an accepted reading leaves: a sound table, whose rows are the page's nodes
   pub record Accepted (ws : List ℕ) : Type 0 where
-    pub short : page_too_long p ≡ false
+    pub fine : profile_not_fine f ≡ false
+    pub short : page_too_long f p ≡ false
     pub sound_table : sound (length p) ws ≡ true
     pub counted : count_of ws ≡ count
     pub row : (h : ℕ) → h < count → node_at ws h ≡ node page.nodes h
 
-  from_filled : page_too_long p ≡ false → {ws t : List ℕ} → Filled ws t (head_of count page.version (length p)) page.nodes → Accepted ws
-  from_filled e {ws} {t} F =
+  from_filled : profile_not_fine f ≡ false → page_too_long f p ≡ false → {ws t : List ℕ}
+      → Filled ws t (head_of count page.version (length p)) page.nodes → Accepted ws
+  from_filled d e {ws} {t} F =
       record {
+        fine = d;
         short = e;
         sound_table = page_table_sound F;
-        counted = counts (length p) page.version (page_sound white void p) F;
+        counted = counts (length p) page.version (page_sound f.white f.void p) F;
         row = λ h l. filled_node F h no_node l;
       }
 
-  pub accepted : (t : List ℕ) (n : ℕ) → parse_answer white void p (length t) ≡ Ok n → Accepted (parse_table white void p t)
+  pub accepted : (t : List ℕ) (n : ℕ) → parse_answer f p (length t) ≡ Ok n → Accepted (parse_table f p t)
   unfolding parse_answer parse_table
-  accepted t n = go (page_too_long p) refl (ltb (length t) (row_at count)) refl
+  accepted t n = go (profile_not_fine f) refl (page_too_long f p) refl (ltb (length t) (row_at count)) refl
     where
-      go : (a : Bool) → page_too_long p ≡ a → (b : Bool) → ltb (length t) (row_at count) ≡ b → parsed a b ≡ Ok n
-          → Accepted (parsed_table white void p t (parsed a b))
-      go true o b q e = let z : ◌≡◌ {A = ℕ} 0 1 = cc in absurd (omega arith)
-      go false o true q e = let z : ◌≡◌ {A = ℕ} 0 1 = cc in absurd (omega arith)
-      go false o false q e = from_filled o {t = t} (record { words = refl; head = refl; fits = ltb-false (length t) (row_at count) q })
+      go : (a : Bool) → profile_not_fine f ≡ a → (b : Bool) → page_too_long f p ≡ b → (c : Bool) → ltb (length t) (row_at count) ≡ c
+          → parsed a b c ≡ Ok n → Accepted (parsed_table f p t (parsed a b c))
+      go true d b o c q e = let z : ◌≡◌ {A = ℕ} 0 1 = cc in absurd (omega arith)
+      go false d true o c q e = let z : ◌≡◌ {A = ℕ} 0 1 = cc in absurd (omega arith)
+      go false d false o true q e = let z : ◌≡◌ {A = ℕ} 0 1 = cc in absurd (omega arith)
+      go false d false o false q e = from_filled d o {t = t} (record { words = refl; head = refl; fits = ltb-false (length t) (row_at count) q })
 
   -- an accepted page leaves a sound table
-  pub parsed_sound : (t : List ℕ) (n : ℕ) → parse_answer white void p (length t) ≡ Ok n → sound (length p) (parse_table white void p t) ≡ true
+  pub parsed_sound : (t : List ℕ) (n : ℕ) → parse_answer f p (length t) ≡ Ok n → sound (length p) (parse_table f p t) ≡ true
   parsed_sound t n e = (accepted t n e).sound_table

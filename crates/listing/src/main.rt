@@ -12,7 +12,7 @@ use std::io::Print;
 fn list(page: &[u8], table: &mut [u32], out: &mut [u8]) -> Result<usize, Refusal>
     ensures { Lists page.now table.old out.old table.new out.new result }
 {
-    let read = parser::parse(page, table);
+    let read = parser::parse(&profile::tl(), page, table);
     lines::answer(page, table, read, out)
 }
 

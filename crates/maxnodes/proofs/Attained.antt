@@ -4,7 +4,7 @@ use Rattle.std.proofs.Common.{Ok, Err}
 use Prim.Native.Nat.{ℕ, zero, suc, ◌+◌, ◌-◌, ◌≤◌, ◌<◌, pred}
 use native.Mathlib.Numerals.{add-one}
 use native.Mathlib.Omega.{arith}
-use mathlib.Core.Bool.{Bool, true, false}
+use mathlib.Core.Bool.{Bool, true, false, not}
 use mathlib.Core.Path.{◌≡◌, refl, sym, ap, ◌∙◌}
 use mathlib.Core.List.{List, ◌∷◌}
 use lib.ListN.{length, get_or, drop, length-drop}
@@ -19,9 +19,11 @@ use Rattle.rules.specs.Attributes.{not_closing, attributes_end}
 use Rattle.rules.specs.Lexer.{next, markup, tag, item_at}
 use Rattle.rules.specs.Table.{row_at}
 use Rattle.rules.specs.Reader.{Reading, put, steps, begin}
-use Rattle.rules.specs.Refusals.{page_limit, page_too_long}
+use Rattle.rules.specs.Profile.{limit_of, Settings, settings_of}
+use Rattle.rules.specs.Refusals.{page_too_long}
 use Rattle.rules.specs.Answers.{parse_answer}
-use Rattle.rules.specs.declared.Refusal.TheVariants.{PageTooLong, TableTooSmall}
+use Rattle.rules.specs.declared.Refusal.TheVariants.{ProfileNotFine, PageTooLong, TableTooSmall}
+use Rattle.rules.proofs.Profile.{fine_facts, white_below}
 use Rattle.rules.proofs.Runs.{skip_more, skip_stop, skip_end}
 use Rattle.rules.proofs.Places.{here_in, pass_in}
 use Rattle.laws.proofs.Lockstep.{put_at_lem, steps_done, step_on}
@@ -167,53 +169,57 @@ module _ (white : ℕ → Bool) (void : List ℕ → Bool) (close : white 62 ≡
       let T : Stepped (pred k) S.to 97 m 1 = tag_step m (pred k) S.to S.rest (omega arith) in
       S.on ∙ T.on ∙ counts m (pred (pred k)) T.to T.rest (omega arith) ∙ omega (arith, S.nodes, T.nodes)
 
-module _ (white : ℕ → Bool) (void : List ℕ → Bool) (close : white 62 ≡ false) (n : ℕ) (short : page_too_long (densest n) ≡ false) where
-  nodes : nodes_of white void (densest n) ≡ max_nodes n
+module _ (f : Settings) (fine : f.fine ≡ true) (close : f.white 62 ≡ false) (n : ℕ) (short : page_too_long f (densest n) ≡ false) where
+  nodes : nodes_of f (densest n) ≡ max_nodes n
   nodes =
-      let r : Reading = steps white void (densest n) (length (densest n)) begin in
+      let r : Reading = steps f.white f.void (densest n) (length (densest n)) begin in
       last_length (pred (length r.nodes)) r.opens r.nodes
-      ∙ counts white void close (densest n) n (length (densest n)) begin refl (omega (arith, cycle_length 97 n)) ∙ omega arith
+      ∙ counts f.white f.void close (densest n) n (length (densest n)) begin refl (omega (arith, cycle_length 97 n)) ∙ omega arith
 
-  attains : Attains white void n (densest n)
+  attains : Attains f n (densest n)
   unfolding parse_answer
   attains =
       record {
         size = cycle_length 97 n;
         nodes = nodes;
-        enough = λ w h. rw (short, nodes, le-ltb w (row_at (max_nodes n)) h);
-        too_few = λ w h. rw (short, nodes, lt-ltb w (row_at (max_nodes n)) h);
+        enough = λ w h. rw (fine, short, nodes, le-ltb w (row_at (max_nodes n)) h);
+        too_few = λ w h. rw (fine, short, nodes, lt-ltb w (row_at (max_nodes n)) h);
       }
 
 -- ---- the rows
 
--- what is counted are the nodes of a page that is not too long
-module _ (white : ℕ → Bool) (void : List ℕ → Bool) (p : List ℕ) where
-  read_counts : (words n : ℕ) → parse_answer white void p words ≡ Ok n → (nodes_of white void p ≡ n) × (length p ≤ page_limit)
-  unfolding parse_answer
-  read_counts words n e = go (page_too_long p) refl (ltb words (row_at (nodes_of white void p))) e
-    where
-      go : (b : Bool) → page_too_long p ≡ b → (d : Bool)
-          → pick b (Err PageTooLong) (pick d (Err TableTooSmall) (Ok (nodes_of white void p))) ≡ Ok n
-          → (nodes_of white void p ≡ n) × (length p ≤ page_limit)
-      go true q d f = let z : ◌≡◌ {A = ℕ} 0 1 = cc in absurd (omega arith)
-      go false q true f = let z : ◌≡◌ {A = ℕ} 0 1 = cc in absurd (omega arith)
-      go false q false f = (cc, ltb-false page_limit (length p) q)
+module _ (f : Settings) (p : List ℕ) where
+  nodes_few : nodes_of f p ≤ max_nodes (length p)
+  nodes_few = bounded f.white f.void p
 
-  rows_enough : length p ≤ page_limit → (words : ℕ) → row_at (max_nodes (length p)) ≤ words
-      → parse_answer white void p words ≡ Ok (nodes_of white void p)
+  -- what is counted are the nodes of a page that is not too long, under a profile within its limits
+  read_counts : (words n : ℕ) → parse_answer f p words ≡ Ok n → (f.fine ≡ true) × (nodes_of f p ≡ n) × (length p ≤ f.limit)
   unfolding parse_answer
-  rows_enough l words h =
-      let b : nodes_of white void p ≤ max_nodes (length p) = bounded white void p in
-      rw (le-ltb page_limit (length p) l, le-ltb words (row_at (nodes_of white void p)) (omega arith))
+  read_counts words n e = go f.fine refl (page_too_long f p) refl (ltb words (row_at (nodes_of f p))) e
+    where
+      go : (a : Bool) → f.fine ≡ a → (b : Bool) → page_too_long f p ≡ b → (d : Bool)
+          → pick (not a) (Err ProfileNotFine) (pick b (Err PageTooLong) (pick d (Err TableTooSmall) (Ok (nodes_of f p)))) ≡ Ok n
+          → (f.fine ≡ true) × (nodes_of f p ≡ n) × (length p ≤ f.limit)
+      go false o b q d g = let z : ◌≡◌ {A = ℕ} 0 1 = cc in absurd (omega arith)
+      go true o true q d g = let z : ◌≡◌ {A = ℕ} 0 1 = cc in absurd (omega arith)
+      go true o false q true g = let z : ◌≡◌ {A = ℕ} 0 1 = cc in absurd (omega arith)
+      go true o false q false g = (o, cc, ltb-false f.limit (length p) q)
+
+  rows_enough : f.fine ≡ true → length p ≤ f.limit → (words : ℕ) → row_at (max_nodes (length p)) ≤ words
+      → parse_answer f p words ≡ Ok (nodes_of f p)
+  unfolding parse_answer
+  rows_enough fine l words h = rw (fine, le-ltb f.limit (length p) l, le-ltb words (row_at (nodes_of f p)) (omega (arith, nodes_few)))
 
 -- U13
 pub node_bound : NodeBound
 node_bound =
     record {
-      bound = bounded;
-      most = λ white void p words n e. omega (arith, bounded white void p, read_counts white void p words n e);
-      rows = rows_enough;
-      attained = λ white void close n l.
-          attains white void close n (le-ltb page_limit (length (densest n)) (omega (arith, l, cycle_length 97 n)));
-      rust = refl;
+      bound = nodes_few;
+      most = λ q p words n e.
+          let r = read_counts (settings_of q) p words n e in
+          let F = fine_facts q r.0 in omega (arith, nodes_few (settings_of q) p, r.1, r.2, F.limit);
+      rows = λ q e p l. rows_enough (settings_of q) p e l;
+      attained = λ q e n l.
+          attains (settings_of q) e (white_below q e 62 (omega arith)) n
+          (le-ltb (limit_of q) (length (densest n)) (omega (arith, l, cycle_length 97 n)));
     }

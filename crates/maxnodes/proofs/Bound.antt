@@ -13,7 +13,7 @@ use Rattle.rules.specs.Scan.{skip, here}
 use Rattle.rules.specs.declared.Item.{Item}
 use Rattle.rules.specs.declared.Item.TheVariants.{Text}
 use Rattle.rules.specs.Lexer.{next, item_at}
-use Rattle.rules.specs.Reader.{Reading, put, step, steps, begin}
+use Rattle.rules.specs.Reader.{Reading, put, step, steps, begin, read}
 use Rattle.rules.proofs.Pick.{cases}
 use Rattle.rules.proofs.Runs.{skip_ends}
 use Rattle.rules.proofs.Places.{here_in}
@@ -21,7 +21,7 @@ use Rattle.laws.proofs.CutLexer.{item_grows}
 use Rattle.laws.proofs.Lockstep.{put_at_lem}
 use Rattle.laws.proofs.Step.{adds, adds_few, put_count, item_text, item_wide}
 use Rattle.laws.proofs.Tree.{last_length}
-use Rattle.maxnodes.specs.Bound.{max_nodes, nodes_of}
+use Rattle.maxnodes.specs.Bound.{max_nodes}
 
 module _ (white : ℕ → Bool) (void : List ℕ → Bool) (p : List ℕ) where
   -- the nodes so far; where a text may come next, the last one was followed by `<`
@@ -73,9 +73,9 @@ module _ (white : ℕ → Bool) (void : List ℕ → Bool) (p : List ℕ) where
   steps_few (suc k) r F =
       cases Few (ltb r.at (length p)) (λ t. steps_few k (put void p r (item r)) (put_few r (ltb-true r.at (length p) t) F)) (λ t. F)
 
-  pub bounded : nodes_of white void p ≤ max_nodes (length p)
+  pub bounded : length (read white void p).nodes ≤ max_nodes (length p)
   bounded =
       let s : Reading = steps white void p (length p) begin in
       let F : Few s = steps_few (length p) begin (record { within = omega arith; nodes = omega arith; before_text = λ t. omega arith }) in
-      let n : nodes_of white void p ≡ length s.nodes = last_length (pred (length s.nodes)) s.opens s.nodes in
+      let n : length (read white void p).nodes ≡ length s.nodes = last_length (pred (length s.nodes)) s.opens s.nodes in
       omega (arith, n, F.nodes, F.within)

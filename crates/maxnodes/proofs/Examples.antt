@@ -2,7 +2,7 @@
 use mathlib.Core.Path.{◌≡◌, refl}
 use mathlib.Core.List.{[], ◌∷◌, map}
 use Rattle.rules.specs.Ascii.{bytes}
-use Rattle.rules.specs.Refusals.{page_limit}
+use Rattle.rules.specs.Profile.{page_limit}
 use Rattle.maxnodes.specs.Bound.{max_nodes, cycle, densest}
 
 most : map max_nodes (0 ∷ 1 ∷ 2 ∷ 3 ∷ 7 ∷ page_limit ∷ []) ≡ 0 ∷ 1 ∷ 1 ∷ 2 ∷ 5 ∷ 43691 ∷ []

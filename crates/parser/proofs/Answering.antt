@@ -1,20 +1,21 @@
 -- Reading a page from its beginning: its open tags settled, its header written, and the cases of the answer.
-use Rattle.std.proofs.Common.{Option, Some, None, Result, Ok}
-use mathlib.Core.Path.{◌≡◌, refl, subst, sym, ap, ◌∙◌}
+use Rattle.std.specs.Prelude.{⊤}
+use Rattle.std.proofs.Common.{Option, Some, None, Result, Ok, Err}
+use mathlib.Core.Path.{◌≡◌, refl, sym, ap, ◌∙◌}
 use mathlib.Core.Bool.{Bool}
 use mathlib.Core.List.{List, ◌++◌}
 use Prim.Native.Nat.{ℕ, ◌≤◌, ◌<◌, pred}
 use native.Mathlib.Omega.{arith}
 use borrow.Author.Tests.{lt-ltb, le-ltb}
 use lib.ListN.{length, take, drop}
-use Rattle.rules.specs.Bytes.{is_white}
-use Rattle.rules.specs.Names.{is_void}
-use Rattle.rules.specs.Reader.{Reading, begin, steps, finished, read}
+use Rattle.rules.specs.Profile.{page_limit, Settings}
+use Rattle.rules.specs.Reader.{Reading, begin, steps, finished}
 use Rattle.rules.specs.Table.{head_words, row_at, head_of, filled}
-use Rattle.rules.specs.Refusals.{Refuses, page_limit}
-use Rattle.rules.specs.Answers.{parse_answer, parsed_table, parse_table}
-use Rattle.rules.specs.declared.Refusal.TheVariants.{PageTooLong, TableTooSmall}
+use Rattle.rules.specs.Refusals.{Refuses, on_page}
+use Rattle.rules.specs.Answers.{reading, parse_answer, parsed_table, parse_table}
+use Rattle.rules.specs.declared.Refusal.TheVariants.{TableTooSmall}
 use Rattle.rules.specs.declared.State.{State}
+use Rattle.rules.proofs.Asking.{Readable, page_refused}
 use Rattle.rules.proofs.Table.{filled_none, filled_head}
 use Rattle.laws.proofs.Tree.{last_length}
 use Rattle.tree.specs.Held.{Held, Settled}
@@ -45,57 +46,60 @@ held_end {t = t} {hd = hd} {R = R} {s = s} H last len e S w =
 -- ---- the answer
 
 -- the reading of a page before its open tags are settled: it has as many nodes
-abbrev read_by : (ℕ → Bool) → List ℕ → Reading
-read_by white p = steps white is_void p (length p) begin
+abbrev read_by : (ℕ → Bool) → (List ℕ → Bool) → List ℕ → Reading
+read_by white void p = steps white void p (length p) begin
 
-abbrev count_by : (ℕ → Bool) → List ℕ → ℕ
-count_by white p = length (read white is_void p).nodes
+abbrev count_by : Settings → List ℕ → ℕ
+count_by f p = length (reading f p).nodes
 
-count_same : (white : ℕ → Bool) (p : List ℕ) → count_by white p ≡ length (read_by white p).nodes
-count_same white p = let R : Reading = read_by white p in last_length _ R.opens R.nodes
+count_same : (f : Settings) (p : List ℕ) → count_by f p ≡ length (read_by f.white f.void p).nodes
+count_same f p = let R : Reading = read_by f.white f.void p in last_length _ R.opens R.nodes
 
-module _ {white : ℕ → Bool} {p t t₂ : List ℕ} {r : Result ℕ Refusal} where
-  answers : {A : Result ℕ Refusal} → r ≡ A → parse_answer white is_void p (length t) ≡ A → t₂ ≡ parsed_table white is_void p t A → Parses white is_void p t t₂ r
+-- by marks and void names that are the profile's
+run_as : {white white' : ℕ → Bool} {void void' : List ℕ → Bool} {p : List ℕ} {n : ℕ} {t₁ t₂ : List ℕ} {s : State} {r : Option State}
+    → white ≡ white' → void ≡ void' → Run white void p n t₁ s t₂ r → Run white' void' p n t₁ s t₂ r
+run_as e d X = rw (← e, ← d) X
+
+module _ (f : Settings) {p t t₂ : List ℕ} {r : Result ℕ Refusal} where
+  answers : {A : Result ℕ Refusal} → r ≡ A → parse_answer f p (length t) ≡ A → t₂ ≡ parsed_table f p t A → Parses f p t t₂ r
   unfolding parse_table
   answers q e w = record { answer = q ∙ sym e; table = rw e w }
 
-  pub parses_long : page_limit < length p → Refuses 0 t PageTooLong r t₂ → Parses white is_void p t t₂ r
+  -- refused as 14 or 1
+  pub parses_refused : {x : Refusal} → ◌≡◌ {A = Result ⊤ Refusal} (Err x) (on_page f p (Ok tt)) → Refuses 0 t x r t₂ → Parses f p t t₂ r
   unfolding parse_answer
-  parses_long l Z = answers Z.is (rw (lt-ltb page_limit (length p) l)) Z.left
+  parses_refused {x} e Z = answers Z.is (page_refused f p (sym e) _) Z.left
 
-  module _ (l : length p ≤ page_limit) where
-    none : length t < row_at (count_by white p) → Refuses 0 t TableTooSmall r t₂ → Parses white is_void p t t₂ r
+  module _ (l : Readable f p) where
+    none : length t < row_at (count_by f p) → Refuses 0 t TableTooSmall r t₂ → Parses f p t t₂ r
     unfolding parse_answer
-    none m Z = answers Z.is (rw (le-ltb page_limit (length p) l, lt-ltb (length t) (row_at (count_by white p)) m)) Z.left
+    none m Z = answers Z.is (rw (l.fine, l.short, lt-ltb (length t) (row_at (count_by f p)) m)) Z.left
 
-    pub parses_short : length t < head_words → Refuses 0 t TableTooSmall r t₂ → Parses white is_void p t t₂ r
+    pub parses_short : length t < head_words → Refuses 0 t TableTooSmall r t₂ → Parses f p t t₂ r
     parses_short m = none (omega arith)
 
     -- the steps ran, from t to t₁
-    module _ (h : head_words ≤ length t) {t₁ : List ℕ} {r₁ : Option State} (X : Run white p (length p) t start t₁ r₁) where
-      pub parses_full : r₁ ≡ None → length t₁ ≡ length t → Refuses 0 t₁ TableTooSmall r t₂ → Parses white is_void p t t₂ r
+    module _ (h : head_words ≤ length t) {white : ℕ → Bool} {void : List ℕ → Bool} (w : white ≡ f.white) (v : void ≡ f.void)
+        {t₁ : List ℕ} {r₁ : Option State}
+        (X : Run white void p (length p) t start t₁ r₁) where
+      pub parses_full : r₁ ≡ None → length t₁ ≡ length t → Refuses 0 t₁ TableTooSmall r t₂ → Parses f p t t₂ r
       parses_full full e Z =
-          let m = X.full t (take head_words t) begin (held_begin t h) (good_begin white p) full in
-          none (rw (count_same white p) m) (record { is = Z.is; left = rw (← e) Z.left })
+          let m = (run_as w v X).full t (take head_words t) begin (held_begin t h) (good_begin f.white p) full in
+          none (rw (count_same f p) m) (record { is = Z.is; left = rw (← e) Z.left })
 
-      pub parses_read : {q : State} → r₁ ≡ Some q → Finished t₁ q (length p) t₂ → r ≡ Ok q.count → Parses white is_void p t t₂ r
+      pub parses_read : {q : State} → r₁ ≡ Some q → Finished t₁ q (length p) t₂ → r ≡ Ok q.count → Parses f p t t₂ r
       unfolding parse_answer
       parses_read {q} room F a =
-          let H = X.held t (take head_words t) begin q (held_begin t h) (good_begin white p) room in
-          let n : q.count ≡ count_by white p = H.count ∙ sym (count_same white p) in
-          let fits : row_at (count_by white p) ≤ length t = rw (count_same white p) H.rows.filled.fits in
-          answers (a ∙ ap Ok n) (rw (le-ltb page_limit (length p) l, le-ltb (length t) (row_at (count_by white p)) fits))
-          (F.words t (take head_words t) (read_by white p) H ∙ rw (n, H.version))
+          let H = (run_as w v X).held t (take head_words t) begin q (held_begin t h) (good_begin f.white p) room in
+          let n : q.count ≡ count_by f p = H.count ∙ sym (count_same f p) in
+          let fits : row_at (count_by f p) ≤ length t = rw (count_same f p) H.rows.filled.fits in
+          answers (a ∙ ap Ok n) (rw (l.fine, l.short, le-ltb (length t) (row_at (count_by f p)) fits))
+          (F.words t (take head_words t) (read_by f.white f.void p) H ∙ rw (n, H.version))
 
 -- what the steps left may be finished
-pub holds_read : {white : ℕ → Bool} {p t t₁ : List ℕ} {r : Option State} {q : State} → length p ≤ page_limit → head_words ≤ length t
-    → Run white p (length p) t start t₁ r → r ≡ Some q → Holds t₁ q
-holds_read {white} {p} {t} {q = q} l h X room =
+pub holds_read : {white : ℕ → Bool} {void : List ℕ → Bool} {p t t₁ : List ℕ} {r : Option State} {q : State} → length p ≤ page_limit
+    → head_words ≤ length t → Run white void p (length p) t start t₁ r → r ≡ Some q → Holds t₁ q
+holds_read {white} {void} {p} {t} {q = q} l h X room =
     let H = X.held t (take head_words t) begin q (held_begin t h) (good_begin white p) room in
-    let G = good_steps white p (length p) (good_begin white p) in
-    record { t = t; hd = take head_words t; R = read_by white p; held = H; few = omega (arith, H.count, G.few, G.within) }
-
--- by marks whose white is tl's
-pub parses_white : {white : ℕ → Bool} {p t t₂ : List ℕ} {r : Result ℕ Refusal} → white ≡ is_white → Parses white is_void p t t₂ r
-    → Parses is_white is_void p t t₂ r
-parses_white {p = p} {t = t} {t₂ = t₂} {r = r} e P = subst (λ (w : ℕ → Bool). Parses w is_void p t t₂ r) e P
+    let G = good_steps white p void (length p) (good_begin white p) in
+    record { t = t; hd = take head_words t; R = read_by white void p; held = H; few = omega (arith, H.count, G.few, G.within) }

@@ -7,10 +7,9 @@ use native.Mathlib.Omega.{arith}
 use borrow.Author.Tests.{ltb-true}
 use lib.Dec.{ltb}
 use lib.ListN.{length}
-use Rattle.rules.specs.Names.{is_void}
 use Rattle.rules.specs.Lexer.{next, item_at}
 use Rattle.rules.specs.Reader.{Reading, begin, put, step, steps}
-use Rattle.rules.specs.Refusals.{page_limit}
+use Rattle.rules.specs.Profile.{page_limit}
 use Rattle.rules.specs.declared.Item.{Item}
 use Rattle.rules.specs.declared.Item.TheVariants.{Text, Close, Comment, Doctype, Tag, Nothing}
 use Rattle.rules.specs.declared.State.{State}
@@ -44,22 +43,22 @@ module _ (white : ℕ → Bool) (p : List ℕ) where
   pub good_begin : Good white p begin
   good_begin = record { fine = begin_fine; few = omega arith; within = omega arith }
 
-  pub good_step : {R : Reading} → Good white p R → R.at < length p → Good white p (put is_void p R (item_at white p R.at))
-  good_step {R} G l =
+  pub good_step : (void : List ℕ → Bool) {R : Reading} → Good white p R → R.at < length p → Good white p (put void p R (item_at white p R.at))
+  good_step void {R} G l =
       let i : Item = item_at white p R.at in
       let g = item_grows white p R.at l in
-      let a : (put is_void p R i).at ≡ next i = put_at_lem white is_void p R i in
+      let a : (put void p R i).at ≡ next i = put_at_lem white void p R i in
       record {
-        fine = put_fine white is_void p R i g.0 (item_formed white p R.at l) G.fine;
-        few = omega (arith, put_count is_void p R i, adds_few i, G.few, g.0, a);
+        fine = put_fine white void p R i g.0 (item_formed white p R.at l) G.fine;
+        few = omega (arith, put_count void p R i, adds_few i, G.few, g.0, a);
         within = omega (arith, g.1, a);
       }
 
-  pub good_steps : (k : ℕ) {R : Reading} → Good white p R → Good white p (steps white is_void p k R)
+  pub good_steps : (void : List ℕ → Bool) (k : ℕ) {R : Reading} → Good white p R → Good white p (steps white void p k R)
   unfolding steps step
-  good_steps zero G = G
-  good_steps (suc k) {R} G =
-      cases (Good white p) (ltb R.at (length p)) (λ t. good_steps k (good_step G (ltb-true R.at (length p) t))) (λ t. G)
+  good_steps void zero G = G
+  good_steps void (suc k) {R} G =
+      cases (Good white p) (ltb R.at (length p)) (λ t. good_steps void k (good_step void G (ltb-true R.at (length p) t))) (λ t. G)
 
 -- ---- what a table and a state that hold a good reading show to `put`
 

@@ -1,10 +1,9 @@
 -- Reading a page by steps: what holds of every reading, and what the calls do to the table and the state that hold it.
 use Rattle.std.specs.Prelude.{◌≡◌, Bool, List, ℕ, ◌≤◌, ◌<◌, length, Option, Some, None, Result}
-use Rattle.rules.specs.Names.{is_void}
+use Rattle.rules.specs.Profile.{page_limit, Settings}
 use Rattle.rules.specs.Facts.{Fine}
 use Rattle.rules.specs.Reader.{Reading, steps, finished}
 use Rattle.rules.specs.Table.{row_at, head_of, filled}
-use Rattle.rules.specs.Refusals.{page_limit}
 use Rattle.rules.specs.Answers.{parse_answer, parse_table}
 use Rattle.rules.specs.declared.State.{State}
 use Rattle.tree.specs.Held.{Held}
@@ -28,11 +27,12 @@ pub record Reads (white : ℕ → Bool) (p t₁ : List ℕ) (s : State) : Type 0
 
 -- The table t₁ and the state s became t₂ and r by n steps: whatever reading of p they held, they now hold it n steps later, or there
 -- was no room, since n steps later it has more nodes than the table has rows.
-pub record Run (white : ℕ → Bool) (p : List ℕ) (n : ℕ) (t₁ : List ℕ) (s : State) (t₂ : List ℕ) (r : Option State) : Type 0 where
+pub record Run (white : ℕ → Bool) (void : List ℕ → Bool) (p : List ℕ) (n : ℕ)
+    (t₁ : List ℕ) (s : State) (t₂ : List ℕ) (r : Option State) : Type 0 where
   pub held : (t hd : List ℕ) (R : Reading) (s₂ : State) → Held t₁ t hd R s → Good white p R → r ≡ Some s₂
-      → Held t₂ t hd (steps white is_void p n R) s₂
+      → Held t₂ t hd (steps white void p n R) s₂
   pub full : (t hd : List ℕ) (R : Reading) → Held t₁ t hd R s → Good white p R → r ≡ None
-      → length t₁ < row_at (length (steps white is_void p n R).nodes)
+      → length t₁ < row_at (length (steps white void p n R).nodes)
 
 -- ---- the end
 
@@ -51,6 +51,6 @@ pub record Finished (t₁ : List ℕ) (s : State) (len : ℕ) (t₂ : List ℕ) 
 -- ---- the answer
 
 -- the page p was read into the table t₁: the answer and the table afterwards are those of the rules
-pub record Parses (white : ℕ → Bool) (void : List ℕ → Bool) (p t₁ t₂ : List ℕ) (r : Result ℕ Refusal) : Type 0 where
-  pub answer : r ≡ parse_answer white void p (length t₁)
-  pub table : t₂ ≡ parse_table white void p t₁
+pub record Parses (f : Settings) (p t₁ t₂ : List ℕ) (r : Result ℕ Refusal) : Type 0 where
+  pub answer : r ≡ parse_answer f p (length t₁)
+  pub table : t₂ ≡ parse_table f p t₁

@@ -4,13 +4,12 @@
 #![tactic(auto)]
 
 ghost use Rattle.std.specs.Prelude.{◌≤◌, length};
-ghost use Rattle.rules.specs.Bytes.{is_white};
-ghost use Rattle.rules.specs.Names.{is_void};
-ghost use Rattle.rules.specs.Refusals.{page_limit};
+ghost use Rattle.rules.specs.Profile.{page_limit, void_of, settings_of};
 ghost use Rattle.scan.specs.Marks.{white_in};
 ghost use Rattle.parser.specs.Parsing.{Reads, Run, Holds, Finished, Parses};
 
-use rules::{PAGE_LIMIT, Refusal, State};
+use profile::{SIZE, VoidNames};
+use rules::{Refusal, State};
 use scan::Marks;
 
 // Up to `budget` steps of the reader from a state on. It stops early at the end of the page, and where there is no room for a row. The
@@ -18,12 +17,13 @@ use scan::Marks;
 fn parse_single(
     table: &mut [u32],
     t: &Marks,
+    void: &VoidNames,
     page: &[u8],
     from: State,
     budget: usize,
 ) -> Option<State>
     requires { Reads (white_in t.now) page.now table.old from × (length page.now ≤ page_limit) }
-    ensures { Run (white_in t.now) page.now budget table.old from table.new result }
+    ensures { Run (white_in t.now) (void_of void.now.profile.bytes.now) page.now budget table.old from table.new result }
 {
     let mut s = from;
     for _ in 0..budget {
@@ -31,7 +31,7 @@ fn parse_single(
             return Some(s);
         }
         let item = lexer::item_at(t, page, s.at);
-        s = tree::put(table, page, s, item)?;
+        s = tree::put(table, void, page, s, item)?;
     }
     Some(s)
 }
@@ -47,18 +47,20 @@ fn finish(table: &mut [u32], s: State, len: u32)
     table::put_head(table, count as u32, s.version, len);
 }
 
-// Reads a page into a table and answers how many nodes it has. Refused are 1, a page over the limit, and 2, a table with too few rows.
-pub fn parse(page: &[u8], table: &mut [u32]) -> Result<usize, Refusal>
-    ensures { Parses is_white is_void page.now table.old table.new result }
+// Reads a page into a table and answers how many nodes it has. Refused are 14, a profile outside its limits, 1, a page over the profile's
+// limit, and 2, a table with too few rows.
+pub fn parse(profile: &[u8; SIZE], page: &[u8], table: &mut [u32]) -> Result<usize, Refusal>
+    ensures { Parses (settings_of profile.now) page.now table.old table.new result }
 {
-    let len = page.len();
-    if PAGE_LIMIT < len {
-        return table::refuse(table, Refusal::PageTooLong);
-    }
+    let profile = match profile::check(profile, page) {
+        Ok(profile) => profile,
+        Err(why) => return table::refuse(table, why),
+    };
     if table.len() < table::HEAD {
         return table::refuse(table, Refusal::TableTooSmall);
     }
-    let t = Marks::new();
+    let t = profile.marks();
+    let void = profile.void_names();
     let start = State {
         at: 0,
         count: 0,
@@ -66,7 +68,8 @@ pub fn parse(page: &[u8], table: &mut [u32]) -> Result<usize, Refusal>
         version: 0,
     };
     // Each step passes a byte or more, so that the page's length is budget enough. From here on the page is within the limit.
-    let Some(s) = parse_single(table, &t, page, start, len) else {
+    let len = page.len();
+    let Some(s) = parse_single(table, &t, &void, page, start, len) else {
         return table::refuse(table, Refusal::TableTooSmall);
     };
     finish(table, s, len as u32);

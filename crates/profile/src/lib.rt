@@ -2,14 +2,15 @@
 
 #![tactic(auto)]
 
-ghost use Rattle.std.specs.Prelude.{◌≡◌, ◌↔◌, true, false, ◌+◌, ◌≤◌, ◌<◌, length, IsSome, IfSome};
+ghost use Rattle.std.specs.Prelude.{◌≡◌, ◌↔◌, true, false, ◌+◌, ◌≤◌, ◌<◌, length, IsSome, IfSome, IfOk, Ok};
 ghost use Rattle.rules.specs.Bytes.{is_ident};
 ghost use Rattle.rules.specs.Scan.{part, same};
-ghost use Rattle.rules.specs.Profile.{limit_of, white_of, name_of, void_of, name_fine, numbers_fine, profile_fine, tl_profile};
+ghost use Rattle.rules.specs.Profile.{limit_of, white_of, name_of, void_of, name_fine, numbers_fine, profile_fine, tl_profile, settings_of};
+ghost use Rattle.rules.specs.Refusals.{on_page, told};
 ghost use Rattle.scan.specs.Marks.{white_in};
 ghost use Rattle.profile.specs.Made.{same_run, slot_by, Filled, Prepared};
 
-use rules::PAGE_LIMIT;
+use rules::{PAGE_LIMIT, Refusal};
 use scan::Marks;
 
 // A profile: the limit, a word; then the white bytes; then the void names, each in a place of its own.
@@ -68,7 +69,7 @@ pub fn tl() -> [u8; SIZE]
 
 // The longest page that is read: of any bytes, since the test of a profile asks it first, and of a profile by the method.
 #[tactic(auto, unfolding(rules::specs::Profile::limit_of))]
-pub fn limit(bytes: &[u8; SIZE]) -> usize
+fn limit(bytes: &[u8; SIZE]) -> usize
     ensures { result ≡ limit_of bytes.now }
 {
     let [a, b, c, d, ..] = *bytes;
@@ -136,7 +137,7 @@ fn is_tl(bytes: &[u8; SIZE]) -> bool
 
 // Whether the profile is within its limits. tl's own costs a comparison alone.
 #[tactic(auto, using(rules::proofs::Profile::fine_tl))]
-pub fn is_fine(bytes: &[u8; SIZE]) -> bool
+fn is_fine(bytes: &[u8; SIZE]) -> bool
     ensures { result ≡ profile_fine bytes.now }
 {
     is_tl(bytes) || all_fine(bytes)
@@ -268,6 +269,18 @@ impl<'a> Profile<'a> {
         }
         names
     }
+}
+
+// Refusals 14 and 1, which come before all others.
+pub fn check<'a>(bytes: &'a [u8; SIZE], page: &[u8]) -> Result<Profile<'a>, Refusal>
+    ensures answer { told result ≡ on_page (settings_of bytes.now) page.now (Ok tt) }
+    ensures lent { IfOk result (λ p. p.bytes.now ≡ bytes.now) }
+{
+    let profile = Profile::new(bytes).ok_or(Refusal::ProfileNotFine)?;
+    if profile.limit() < page.len() {
+        return Err(Refusal::PageTooLong);
+    }
+    Ok(profile)
 }
 
 // ---- where to look for a void name

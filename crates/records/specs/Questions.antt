@@ -1,7 +1,8 @@
 -- What a record asks: the first four of its numbers.
 use Rattle.std.specs.Prelude.{ℕ, List, [], ◌∷◌}
 use Rattle.records.specs.declared.Question.{Question}
-use Rattle.records.specs.declared.Question.TheVariants.{Parse, Range, Attribute, Text, Id, Class, Selector, Query, Below, Attributes, Texts, SetWord, Names}
+use Rattle.records.specs.declared.Question.TheVariants.{Parse, Range, Attribute, Text, Id, Class, Selector, Query, Below}
+use Rattle.records.specs.declared.Question.TheVariants.{Attributes, Texts, Names, SetWord, SetByte}
 
 abbrev pub numbers_of : Question → List ℕ
 numbers_of (Parse words times) = 1 ∷ words ∷ times ∷ 0 ∷ []
@@ -17,3 +18,4 @@ numbers_of (Attributes handles room) = 10 ∷ handles ∷ room ∷ 0 ∷ []
 numbers_of (Texts handles room ends) = 11 ∷ handles ∷ room ∷ ends ∷ []
 numbers_of (SetWord place value) = 12 ∷ place ∷ value ∷ 0 ∷ []
 numbers_of (Names handles room names) = 13 ∷ handles ∷ room ∷ names ∷ []
+numbers_of (SetByte place value) = 14 ∷ place ∷ value ∷ 0 ∷ []

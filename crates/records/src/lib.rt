@@ -102,8 +102,8 @@ pub fn record_at(s: &[u8], at: usize) -> Option<Record>
 
 // ---- what a record asks
 
-// What is asked, with the numbers that it takes. Handles, manners and places in a table are what a record says, whether or not
-// they are any; room is how many entries are lent.
+// What is asked, with the numbers that it takes. Handles, manners and places in a table or a profile are what a record says, whether
+// or not they are any; room is how many entries are lent.
 #[derive(Clone, Copy)]
 pub enum Question {
     Parse { words: u32, times: u32 },
@@ -119,6 +119,7 @@ pub enum Question {
     Texts { handles: u32, room: u32, ends: u32 },
     SetWord { place: u32, value: u32 },
     Names { handles: u32, room: u32, names: u32 },
+    SetByte { place: u32, value: u8 },
 }
 
 // No question has such numbers.
@@ -153,6 +154,10 @@ impl TryFrom<Head> for Question {
                 handles,
                 room,
                 names,
+            },
+            (14, place, value, 0, 0) => Question::SetByte {
+                place,
+                value: u8::try_from(value).map_err(|_| UnknownQuestion)?,
             },
             _ => return Err(UnknownQuestion),
         })

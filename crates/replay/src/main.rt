@@ -6,21 +6,21 @@
 //   5 m 0 0   the tag with an id, in the manner m                        6 m B 0   the tags with a class
 //   7 0 B 0   the bytes as a selector                                    8 0 B 0   a query over the page
 //   9 h B 0   a query below h                                            12 i v 0  word i of the table becomes v
+//   14 i v 0  byte i of the profile becomes v, from 0 to 255; it is tl's at the start
 // Of a list of N handles, with which the bytes begin, each a number with a space after it:
 //   10 N B 0  an attribute of each tag, the rest of the bytes its name
 //   11 N B E  the inner texts, and into E entries where each ends
 //   13 N B K  the attributes of each tag for K names: K numbers like the handles, where the names end, and their text
 // The list in the file stdin beside src/, and in stdout what is to be printed for it, were recorded by tools/compare/run
 // --record. Accepted questions to a page have tl 0.7.8's own answers, those to a list of handles one tag after the other. The
-// words of a table are a model's, once tl's nodes agree with it; refusals, what a buffer holds, and the answers about a table that
-// was changed follow the rules.
+// words of a table are a model's, once tl's nodes agree with it; refusals, what a buffer holds, the answers about a table that was
+// changed, and those under another profile than tl's follow the rules.
 
 #![tactic(auto)]
 
 ghost use Rattle.std.specs.Prelude.{◌≡◌, [], ◌∷◌, length, set, IfSome};
 ghost use Rattle.rules.specs.Ascii.{bytes};
-ghost use Rattle.rules.specs.Bytes.{is_white};
-ghost use Rattle.rules.specs.Names.{is_void};
+ghost use Rattle.rules.specs.Profile.{settings_of};
 ghost use Rattle.rules.specs.Refusals.{manner_of, ranged_numbers, found_numbers, asked_numbers};
 ghost use Rattle.rules.specs.Answers.{parse_answer, parse_table, selector_answer, selector_buffer, range_answer, text_answer, text_buffer, attribute_answer};
 ghost use Rattle.rules.specs.Answers.{id_answer, class_answer, class_buffer, query_answer, query_buffer, query_below_answer, query_below_buffer};
@@ -31,6 +31,7 @@ ghost use Rattle.replay.specs.Lending.{repeated, lent_by, page_by, IsWithin, IsA
 ghost use Rattle.replay.specs.Printed.{Prints, PrintsBoth};
 
 use lines::Writer;
+use profile::SIZE;
 use records::{Number, Question, Record};
 use rules::PAGE_LIMIT;
 use std::io;
@@ -57,9 +58,10 @@ struct Step {
     lent: Lent,
 }
 
-// The buffers that records are answered with: for a page and its table, for texts, for words, and for a line.
+// The buffers that records are answered with: for a profile, a page and its table, for texts, for words, and for a line.
 #[derive(Drop)]
 struct Buffers<'a> {
+    profile: &'a mut [u8; SIZE],
     page: &'a mut [u8],
     table: &'a mut [u32],
     text: &'a mut [u8],
@@ -67,10 +69,11 @@ struct Buffers<'a> {
     out: &'a mut [u8],
 }
 
-// A page and its table, which the questions are about. Each method asks one, and writes the line of the answer. They are alike but for the
-// call: in a closure its promise would be said once more.
+// A profile, a page and its table, which the questions are about. Each method asks one, and writes the line of the answer. They are alike
+// but for the call: in a closure its promise would be said once more.
 #[derive(Clone, Copy)]
 struct Document<'a> {
+    profile: &'a [u8; SIZE],
     page: &'a [u8],
     table: &'a [u32],
 }
@@ -78,80 +81,127 @@ struct Document<'a> {
 #[tactic(auto, unfolding(records::specs::Printed::line))]
 impl Document<'_> {
     fn range(&self, h: u32, out: &mut Writer)
-        ensures { let numbers = ranged_numbers (range_answer is_white self.now.page.now self.now.table.now h) in
+        ensures { let f = settings_of self.now.profile.now in
+            let numbers = ranged_numbers (range_answer f self.now.page.now self.now.table.now h) in
             Puts out.old (line (bytes "range") numbers) out.new }
     {
         let mut answer = [0; 3];
-        let number = tl::tl_range(self.page, self.table, h as usize, &mut answer);
+        let number = tl::tl_range(self.profile, self.page, self.table, h as usize, &mut answer);
         records::put_line(out, b"range", &[number], &answer);
     }
 
     fn attribute(&self, h: u32, name: &[u8], out: &mut Writer)
-        ensures { let numbers = asked_numbers (attribute_answer is_white self.now.page.now self.now.table.now h name.now) in
+        ensures { let f = settings_of self.now.profile.now in
+            let numbers = asked_numbers (attribute_answer f self.now.page.now self.now.table.now h name.now) in
             Puts out.old (line (bytes "attribute") numbers) out.new }
     {
         let mut answer = [0; 3];
-        let number = tl::tl_attribute(self.page, self.table, h as usize, name, &mut answer);
+        let number = tl::tl_attribute(
+            self.profile,
+            self.page,
+            self.table,
+            h as usize,
+            name,
+            &mut answer,
+        );
         records::put_line(out, b"attribute", &[number], &answer);
     }
 
     fn text(&self, h: u32, text: &mut [u8], out: &mut Writer)
-        ensures { let p = self.now.page.now in
+        ensures { let f = settings_of self.now.profile.now in
+            let p = self.now.page.now in
             let t = self.now.table.now in
             let b = text.old in
-            Prints out.old (bytes "text") (text_answer is_white p t h (length b)) (text_buffer is_white p t h b) out.new text.new }
+            Prints out.old (bytes "text") (text_answer f p t h (length b)) (text_buffer f p t h b) out.new text.new }
     {
         let mut count = 0;
-        let number = tl::tl_inner_text(self.page, self.table, h as usize, text, &mut count);
+        let number = tl::tl_inner_text(
+            self.profile,
+            self.page,
+            self.table,
+            h as usize,
+            text,
+            &mut count,
+        );
         records::put_line(out, b"text", &[number as usize, count], text);
     }
 
     fn id(&self, manner: u32, id: &[u8], out: &mut Writer)
-        ensures { let numbers = found_numbers (id_answer is_white self.now.page.now self.now.table.now (manner_of manner) id.now) in
+        ensures { let f = settings_of self.now.profile.now in
+            let numbers = found_numbers (id_answer f self.now.page.now self.now.table.now (manner_of manner) id.now) in
             Puts out.old (line (bytes "id") numbers) out.new }
     {
         let mut answer = [0; 2];
-        let number = tl::tl_get_element_by_id(self.page, self.table, manner, id, &mut answer);
+        let number = tl::tl_get_element_by_id(
+            self.profile,
+            self.page,
+            self.table,
+            manner,
+            id,
+            &mut answer,
+        );
         records::put_line(out, b"id", &[number], &answer);
     }
 
     fn class(&self, manner: u32, class: &[u8], words: &mut [u32], out: &mut Writer)
-        ensures { let p = self.now.page.now in
+        ensures { let f = settings_of self.now.profile.now in
+            let p = self.now.page.now in
             let t = self.now.table.now in
             let m = manner_of manner in
             let k = class.now in
             let b = words.old in
-            Prints out.old (bytes "class") (class_answer is_white p t m k (length b)) (class_buffer is_white p t m k b) out.new words.new }
+            Prints out.old (bytes "class") (class_answer f p t m k (length b)) (class_buffer f p t m k b) out.new words.new }
     {
         let mut count = 0;
         let number = tl::tl_get_elements_by_class_name(
-            self.page, self.table, manner, class, words, &mut count,
+            self.profile,
+            self.page,
+            self.table,
+            manner,
+            class,
+            words,
+            &mut count,
         );
         records::put_line(out, b"class", &[number as usize, count], words);
     }
 
     fn query(&self, s: &[u8], words: &mut [u32], out: &mut Writer)
-        ensures { let p = self.now.page.now in
+        ensures { let f = settings_of self.now.profile.now in
+            let p = self.now.page.now in
             let t = self.now.table.now in
             let k = s.now in
             let b = words.old in
-            Prints out.old (bytes "query") (query_answer is_white p t k (length b)) (query_buffer is_white p t k b) out.new words.new }
+            Prints out.old (bytes "query") (query_answer f p t k (length b)) (query_buffer f p t k b) out.new words.new }
     {
         let mut count = 0;
-        let number = tl::tl_query_selector(self.page, self.table, s, words, &mut count);
+        let number = tl::tl_query_selector(
+            self.profile,
+            self.page,
+            self.table,
+            s,
+            words,
+            &mut count,
+        );
         records::put_line(out, b"query", &[number as usize, count], words);
     }
 
     fn below(&self, h: u32, s: &[u8], words: &mut [u32], out: &mut Writer)
-        ensures { let p = self.now.page.now in
+        ensures { let f = settings_of self.now.profile.now in
+            let p = self.now.page.now in
             let t = self.now.table.now in
             let k = s.now in
             let b = words.old in
-            Prints out.old (bytes "below") (query_below_answer is_white p t h k (length b)) (query_below_buffer is_white p t h k b) out.new words.new }
+            Prints out.old (bytes "below") (query_below_answer f p t h k (length b)) (query_below_buffer f p t h k b) out.new words.new }
     {
         let mut count = 0;
         let number = tl::tl_query_selector_below(
-            self.page, self.table, h as usize, s, words, &mut count,
+            self.profile,
+            self.page,
+            self.table,
+            h as usize,
+            s,
+            words,
+            &mut count,
         );
         records::put_line(out, b"below", &[number as usize, count], words);
     }
@@ -159,15 +209,24 @@ impl Document<'_> {
     // ---- the questions about a list of handles
 
     fn attributes(&self, handles: &[u32], name: &[u8], words: &mut [u32], out: &mut Writer)
-        ensures { let p = self.now.page.now in
+        ensures { let f = settings_of self.now.profile.now in
+            let p = self.now.page.now in
             let t = self.now.table.now in
             let hs = handles.now in
             let b = words.old in
-            Prints out.old (bytes "attributes") (attributes_answer is_white p t hs (length b))
-            (attributes_buffer is_white p t hs name.now b) out.new words.new }
+            Prints out.old (bytes "attributes") (attributes_answer f p t hs (length b))
+            (attributes_buffer f p t hs name.now b) out.new words.new }
     {
         let mut count = 0;
-        let number = tl::tl_attributes(self.page, self.table, handles, name, words, &mut count);
+        let number = tl::tl_attributes(
+            self.profile,
+            self.page,
+            self.table,
+            handles,
+            name,
+            words,
+            &mut count,
+        );
         records::put_line(out, b"attributes", &[number as usize, count], words);
     }
 
@@ -180,31 +239,48 @@ impl Document<'_> {
         words: &mut [u32],
         out: &mut Writer,
     )
-        ensures { let p = self.now.page.now in
+        ensures { let f = settings_of self.now.profile.now in
+            let p = self.now.page.now in
             let t = self.now.table.now in
             let hs = handles.now in
             let es = ends.now in
             let b = words.old in
-            Prints out.old (bytes "names") (names_answer is_white p t hs es (length b)) (names_buffer is_white p t hs names.now es b) out.new words.new }
+            Prints out.old (bytes "names") (names_answer f p t hs es (length b)) (names_buffer f p t hs names.now es b) out.new words.new }
     {
         let mut count = 0;
         let number = tl::tl_attributes_for_names(
-            self.page, self.table, handles, names, ends, words, &mut count,
+            self.profile,
+            self.page,
+            self.table,
+            handles,
+            names,
+            ends,
+            words,
+            &mut count,
         );
         records::put_line(out, b"names", &[number as usize, count], words);
     }
 
     fn texts(&self, handles: &[u32], ends: &mut [usize], text: &mut [u8], out: &mut Writer)
-        ensures { let p = self.now.page.now in
+        ensures { let f = settings_of self.now.profile.now in
+            let p = self.now.page.now in
             let t = self.now.table.now in
             let hs = handles.now in
             let e = ends.old in
             let b = text.old in
-            let answer = texts_answer p t hs (length e) (length b) in
-            PrintsBoth out.old (bytes "texts") answer (ends_buffer p t hs e b) (texts_buffer p t hs e b) out.new ends.new text.new }
+            let answer = texts_answer f p t hs (length e) (length b) in
+            PrintsBoth out.old (bytes "texts") answer (ends_buffer f p t hs e b) (texts_buffer f p t hs e b) out.new ends.new text.new }
     {
         let mut count = 0;
-        let number = tl::tl_inner_texts(self.page, self.table, handles, ends, text, &mut count);
+        let number = tl::tl_inner_texts(
+            self.profile,
+            self.page,
+            self.table,
+            handles,
+            ends,
+            text,
+            &mut count,
+        );
         // This line alone has two lists after its numbers.
         out.put(b"texts");
         out.put_fields(&[number as usize, count]);
@@ -214,15 +290,15 @@ impl Document<'_> {
     }
 }
 
-// ---- the questions that are not about a page and its table, or change the table: alike but for the call, as the methods above
+// ---- the questions that are not about a page and its table, or change table or profile: alike but for the call, as the methods above
 
-fn parse(page: &[u8], table: &mut [u32], out: &mut Writer)
+fn parse(profile: &[u8; SIZE], page: &[u8], table: &mut [u32], out: &mut Writer)
     ensures { let p = page.now in
         let t = table.old in
-        Prints out.old (bytes "parse") (parse_answer is_white is_void p (length t)) (parse_table is_white is_void p t) out.new table.new }
+        Prints out.old (bytes "parse") (parse_answer (settings_of profile.now) p (length t)) (parse_table (settings_of profile.now) p t) out.new table.new }
 {
     let mut count = 0;
-    let number = tl::tl_parse(page, table, &mut count);
+    let number = tl::tl_parse(profile, page, table, &mut count);
     records::put_line(out, b"parse", &[number as usize, count], table);
 }
 
@@ -236,17 +312,34 @@ fn selector(s: &[u8], words: &mut [u32], out: &mut Writer)
     records::put_line(out, b"selector", &[number as usize, count], words);
 }
 
-// Damages the table: sets a word of it, if it has that many.
+// Sets an entry, if there are that many.
+fn set_entry<T: Copy>(entries: &mut [T], i: u32, v: T)
+    ensures { entries.new ≡ set entries.old i v }
+{
+    let place = i as usize;
+    if place < entries.len() {
+        entries[place] = v;
+    }
+}
+
+// Damages the table: sets a word of it.
 #[tactic(auto, unfolding(records::specs::Printed::line))]
 fn set_word(table: &mut [u32], i: u32, v: u32, out: &mut Writer)
     ensures table_after { table.new ≡ set table.old i v }
     ensures puts { Puts out.old (line (bytes "word") (i ∷ v ∷ [])) out.new }
 {
-    let place = i as usize;
-    if place < table.len() {
-        table[place] = v;
-    }
+    set_entry(table, i, v);
     records::put_line(out, b"word", &[i], &[v]);
+}
+
+// Sets a byte of the profile.
+#[tactic(auto, unfolding(records::specs::Printed::line))]
+fn set_byte(profile: &mut [u8; SIZE], i: u32, v: u8, out: &mut Writer)
+    ensures profile_after { profile.new ≡ set profile.old i v }
+    ensures puts { Puts out.old (line (bytes "byte") (i ∷ v ∷ [])) out.new }
+{
+    set_entry(profile, i, v);
+    records::put_line(out, b"byte", &[i], &[v]);
 }
 
 // ---- a record's page, and its buffers: nines in as much of them as it asks for
@@ -316,6 +409,7 @@ fn nines<T: Copy + From<u8>>(buffer: &mut [T], room: u32) -> Option<&mut [T]> {
 fn answer(
     question: Question,
     body: &[u8],
+    profile: &mut [u8; SIZE],
     page: &[u8],
     table: &mut [u32],
     text: &mut [u8],
@@ -323,14 +417,16 @@ fn answer(
     out: &mut Writer,
 ) -> Option<()> {
     let document = Document {
+        profile: &*profile,
         page,
         table: &*table,
     };
     let (mut list, mut places) = ([0; MOST], [0; MOST]);
     let (handles, body) = leading(body, &mut list, handle_count(question))?;
     match question {
-        Question::Parse { words, .. } => parse(page, nines(table, words)?, out),
+        Question::Parse { words, .. } => parse(profile, page, nines(table, words)?, out),
         Question::SetWord { place, value } => set_word(table, place, value, out),
+        Question::SetByte { place, value } => set_byte(profile, place, value, out),
         Question::Range { handle } => document.range(handle, out),
         Question::Attribute { handle } => document.attribute(handle, body, out),
         Question::Text { handle, room } => document.text(handle, nines(text, room)?, out),
@@ -372,6 +468,7 @@ fn answer_at(input: &[u8], at: usize, before: Lent, buffers: &mut Buffers) -> Op
     answer(
         question,
         body,
+        &mut *buffers.profile,
         &mut page[..lent.bytes],
         &mut table[..lent.words],
         &mut *buffers.text,
@@ -413,11 +510,12 @@ fn zeros<const N: usize>() -> [u8; N]
     [0; N]
 }
 
-// The input; a page; its table, which has a header of 8 words, 1,819 rows of 9, and 5 words after them; the texts of a page; and the
+// The input; a profile; a page; its table, which has a header of 8 words, 1,819 rows of 9, and 5 words after them; the texts of a page; and the
 // longest line, that of texts: 5 bytes for its word, 2 for a refusal's number, 4 for the count, 6 for each of 256 places, 4 for each
 // byte, and a line feed.
 fn main(rt: HostRuntime) -> io::Result<()> {
     let mut input = zeros::<1048576>();
+    let mut profile = profile::tl();
     let mut page = zeros::<PAGE_ROOM>();
     let mut table = [0u32; 16384];
     let mut text = zeros::<PAGE_ROOM>();
@@ -425,6 +523,7 @@ fn main(rt: HostRuntime) -> io::Result<()> {
     let mut out = zeros::<263696>();
     let n = input::read_full(&mut rt.stdin(), &mut input)?;
     let mut buffers = Buffers {
+        profile: &mut profile,
         page: &mut page,
         table: &mut table,
         text: &mut text,

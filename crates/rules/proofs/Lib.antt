@@ -15,5 +15,6 @@ pub mod Text
 pub mod Closing
 pub mod Rounds
 pub mod Examples
+pub mod ProfileExamples
 pub mod Pages
 pub mod Profile

@@ -1,7 +1,9 @@
--- The public calls: for every input what each answers, and each lent buffer afterwards. The refusals are tried in the order of their numbers.
-use Rattle.std.specs.Prelude.{ℕ, suc, ◌*◌, Bool, List, [], ◌∷◌, ltb, length, replicate, Option, Some, None, Result, Ok, Err}
+-- The public calls: for every input what each answers, and each lent buffer afterwards. Refusal 14 is tried first, and then the others in the
+-- order of their numbers.
+use Rattle.std.specs.Prelude.{ℕ, suc, ◌*◌, List, [], ◌∷◌, ltb, length, replicate, Option, Some, None, Result, Ok, Err}
 use Rattle.rules.specs.Scan.{pick}
-use Rattle.rules.specs.Reader.{read}
+use Rattle.rules.specs.Profile.{Settings}
+use Rattle.rules.specs.Reader.{Reading, read}
 use Rattle.rules.specs.Table.{row_at, head_of, filled, node_at}
 use Rattle.rules.specs.Sound.{last_at}
 use Rattle.rules.specs.Lookup.{lookup}
@@ -9,8 +11,8 @@ use Rattle.rules.specs.Text.{inner_text}
 use Rattle.rules.specs.Finds.{by_id, by_class}
 use Rattle.rules.specs.Chain.{read_selector, written}
 use Rattle.rules.specs.Query.{over_page, below_tag}
-use Rattle.rules.specs.Refusals.{page_too_long, asking, asking_tag, selector_too_long, counted, filled_by, asked_part}
-use Rattle.rules.specs.declared.Refusal.TheVariants.{PageTooLong, TableTooSmall, SelectorTooLong, SelectorNotRead, BufferTooShort}
+use Rattle.rules.specs.Refusals.{on_page, asking, asking_tag, selector_too_long, counted, filled_by, asked_part}
+use Rattle.rules.specs.declared.Refusal.TheVariants.{TableTooSmall, SelectorTooLong, SelectorNotRead, BufferTooShort}
 use Rattle.rules.specs.declared.Manner.{Manner}
 use Rattle.rules.specs.declared.Piece.{Piece}
 use Rattle.rules.specs.declared.Refusal.{Refusal}
@@ -18,16 +20,18 @@ use Rattle.rules.specs.declared.Held.{Held}
 
 -- ---- reading the page p into a table
 
-module _ (white : ℕ → Bool) (void : List ℕ → Bool) (p : List ℕ) where
+module _ (f : Settings) (p : List ℕ) where
+  abbrev pub reading : Reading
+  reading = read f.white f.void p
+
   -- of n words
   unfoldable pub parse_answer : ℕ → Result ℕ Refusal
   parse_answer n =
-      let count = length (read white void p).nodes in
-      pick (page_too_long p) (Err PageTooLong) (pick (ltb n (row_at count)) (Err TableTooSmall) (Ok count))
+      let count = length reading.nodes in on_page f p (pick (ltb n (row_at count)) (Err TableTooSmall) (Ok count))
 
   abbrev pub parsed_table : List ℕ → Result ℕ Refusal → List ℕ
   parsed_table t (Ok n) =
-      filled t (head_of n (read white void p).version (length p)) (read white void p).nodes
+      filled t (head_of n reading.version (length p)) reading.nodes
   parsed_table t (Err x) = replicate (length t) 0
 
   -- the table t afterwards
@@ -74,46 +78,46 @@ abbrev pub finds_of : (List Piece → List ℕ) → Option (List Piece) → List
 finds_of finds None = []
 finds_of finds (Some ps) = finds ps
 
-module _ (white : ℕ → Bool) (p ws : List ℕ) where
+module _ (f : Settings) (p ws : List ℕ) where
   -- the handles below the tag h
   unfoldable pub range_answer : ℕ → Result (Option (ℕ × ℕ)) Refusal
-  range_answer h = asking_tag p ws h (Ok (range_of h (last_at ws h)))
+  range_answer h = asking_tag f p ws h (Ok (range_of h (last_at ws h)))
 
   -- the inner text of the tag h, into n bytes
   unfoldable pub text_answer : ℕ → ℕ → Result ℕ Refusal
-  text_answer h n = asking_tag p ws h (counted n (length (inner_text p ws h)))
+  text_answer h n = asking_tag f p ws h (counted n (length (inner_text p ws h)))
 
   unfoldable pub text_buffer : ℕ → List ℕ → List ℕ
   text_buffer h out = filled_by out (inner_text p ws h) (text_answer h (length out))
 
   -- what the tag h holds for the attribute name k, and the part of the page that is handed back
   unfoldable pub attribute_answer : ℕ → List ℕ → Result Held Refusal
-  attribute_answer h k = asking_tag p ws h (Ok (lookup white p (node_at ws h) k))
+  attribute_answer h k = asking_tag f p ws h (Ok (lookup f.white p (node_at ws h) k))
 
   unfoldable pub attribute_part : ℕ → List ℕ → List ℕ
   attribute_part h k = asked_part p (attribute_answer h k)
 
   -- the tag with the id k
   unfoldable pub id_answer : Manner → List ℕ → Result (Option ℕ) Refusal
-  id_answer m k = asking p ws (Ok (first_found (by_id white p ws m k)))
+  id_answer m k = asking f p ws (Ok (first_found (by_id f.white p ws m k)))
 
   -- the tags with the class k, into n words
   unfoldable pub class_answer : Manner → List ℕ → ℕ → Result ℕ Refusal
-  class_answer m k n = asking p ws (counted n (length (by_class white p ws m k)))
+  class_answer m k n = asking f p ws (counted n (length (by_class f.white p ws m k)))
 
   unfoldable pub class_buffer : Manner → List ℕ → List ℕ → List ℕ
-  class_buffer m k out = filled_by out (by_class white p ws m k) (class_answer m k (length out))
+  class_buffer m k out = filled_by out (by_class f.white p ws m k) (class_answer m k (length out))
 
   -- the finds of the selector s over the whole page, into n words
   unfoldable pub query_answer : List ℕ → ℕ → Result ℕ Refusal
-  query_answer s n = asking p ws (selected (over_page white p ws s) s n)
+  query_answer s n = asking f p ws (selected (over_page f.white p ws s) s n)
 
   unfoldable pub query_buffer : List ℕ → List ℕ → List ℕ
-  query_buffer s out = filled_by out (finds_of (over_page white p ws s) (read_selector s)) (query_answer s (length out))
+  query_buffer s out = filled_by out (finds_of (over_page f.white p ws s) (read_selector s)) (query_answer s (length out))
 
   -- and below the tag h
   unfoldable pub query_below_answer : ℕ → List ℕ → ℕ → Result ℕ Refusal
-  query_below_answer h s n = asking_tag p ws h (selected (below_tag white p ws s h) s n)
+  query_below_answer h s n = asking_tag f p ws h (selected (below_tag f.white p ws s h) s n)
 
   unfoldable pub query_below_buffer : ℕ → List ℕ → List ℕ → List ℕ
-  query_below_buffer h s out = filled_by out (finds_of (below_tag white p ws s h) (read_selector s)) (query_below_answer h s (length out))
+  query_below_buffer h s out = filled_by out (finds_of (below_tag f.white p ws s h) (read_selector s)) (query_below_answer h s (length out))

@@ -1,5 +1,6 @@
 -- The calls on a list of handles: one test of the table, then the single call's answer for each handle, in order.
 use Rattle.std.specs.Prelude.{ℕ, ◌+◌, ◌*◌, Bool, false, ◌||◌, List, [], ◌∷◌, ◌++◌, ltb, length, drop, Result, Ok, Err}
+use Rattle.rules.specs.Profile.{Settings}
 use Rattle.rules.specs.Scan.{pick, part}
 use Rattle.rules.specs.Lists.{each}
 use Rattle.rules.specs.Text.{inner_text}
@@ -13,10 +14,10 @@ unfoldable pub some : (ℕ → Bool) → List ℕ → Bool
 some f [] = false
 some f (x ∷ xs) = f x || some f xs
 
--- refusals 1, 3 and 4, 4 if a handle of the list is no tag's; then 7, if there is too little room; then the handles' count
-unfoldable pub batch_answer : List ℕ → List ℕ → List ℕ → Bool → Result ℕ Refusal
-batch_answer p ws hs short =
-    asking p ws
+-- refusals 14, 1, 3 and 4, 4 if a handle of the list is no tag's; then 7, if there is too little room; then the handles' count
+unfoldable pub batch_answer : Settings → List ℕ → List ℕ → List ℕ → Bool → Result ℕ Refusal
+batch_answer f p ws hs short =
+    asking f p ws
     (pick (some (not_a_tag ws) hs) (Err NotATag) (pick short (Err BufferTooShort) (Ok (length hs))))
 
 -- what f gives for each name of the text s, one after the other: the first starts at `at`, and they end at the places
@@ -24,20 +25,20 @@ unfoldable pub each_name : (List ℕ → List ℕ) → List ℕ → ℕ → List
 each_name f s at [] = []
 each_name f s at (e ∷ es) = f (part s at e) ++ each_name f s e es
 
-module _ (white : ℕ → Bool) (p ws : List ℕ) where
+module _ (f : Settings) (p ws : List ℕ) where
   -- the single answer for the tag h and the attribute name k in three words: its numbers after the refusal's
   abbrev pub three_of : ℕ → List ℕ → List ℕ
-  three_of h k = drop 1 (asked_numbers (attribute_answer white p ws h k))
+  three_of h k = drop 1 (asked_numbers (attribute_answer f p ws h k))
 
-module _ (white : ℕ → Bool) (p ws hs : List ℕ) where
+module _ (f : Settings) (p ws hs : List ℕ) where
   -- ---- what the tags hold for the attribute name k
 
   unfoldable pub attributes_found : List ℕ → List ℕ
-  attributes_found k = each (λ h. three_of white p ws h k) hs
+  attributes_found k = each (λ h. three_of f p ws h k) hs
 
   -- into n words
   unfoldable pub attributes_answer : ℕ → Result ℕ Refusal
-  attributes_answer n = batch_answer p ws hs (ltb n (3 * length hs))
+  attributes_answer n = batch_answer f p ws hs (ltb n (3 * length hs))
 
   unfoldable pub attributes_buffer : List ℕ → List ℕ → List ℕ
   attributes_buffer k out = filled_by out (attributes_found k) (attributes_answer (length out))
@@ -45,11 +46,11 @@ module _ (white : ℕ → Bool) (p ws hs : List ℕ) where
   -- ---- and for each name of the text s, which end at the places es; a tag's words stand together
 
   unfoldable pub names_found : List ℕ → List ℕ → List ℕ
-  names_found s es = each (λ h. each_name (three_of white p ws h) s 0 es) hs
+  names_found s es = each (λ h. each_name (three_of f p ws h) s 0 es) hs
 
   -- into n words
   unfoldable pub names_answer : List ℕ → ℕ → Result ℕ Refusal
-  names_answer es n = batch_answer p ws hs (ltb n (3 * (length es * length hs)))
+  names_answer es n = batch_answer f p ws hs (ltb n (3 * (length es * length hs)))
 
   unfoldable pub names_buffer : List ℕ → List ℕ → List ℕ → List ℕ
   names_buffer s es out = filled_by out (names_found s es) (names_answer es (length out))
@@ -68,12 +69,13 @@ module _ (p ws hs : List ℕ) where
   unfoldable pub ends_found : List ℕ
   ends_found = ends_from 0 (inner_text p ws) hs
 
+module _ (f : Settings) (p ws hs : List ℕ) where
   -- into n words for the ends and m bytes for the texts
   unfoldable pub texts_answer : ℕ → ℕ → Result ℕ Refusal
-  texts_answer n m = batch_answer p ws hs (ltb n (length hs) || ltb m (length texts_found))
+  texts_answer n m = batch_answer f p ws hs (ltb n (length hs) || ltb m (length (texts_found p ws hs)))
 
   unfoldable pub texts_buffer : List ℕ → List ℕ → List ℕ
-  texts_buffer ends out = filled_by out texts_found (texts_answer (length ends) (length out))
+  texts_buffer ends out = filled_by out (texts_found p ws hs) (texts_answer (length ends) (length out))
 
   unfoldable pub ends_buffer : List ℕ → List ℕ → List ℕ
-  ends_buffer ends out = filled_by ends ends_found (texts_answer (length ends) (length out))
+  ends_buffer ends out = filled_by ends (ends_found p ws hs) (texts_answer (length ends) (length out))

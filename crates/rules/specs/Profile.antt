@@ -1,12 +1,16 @@
 -- A profile: how long a counterparty's pages may be, and what is white and which names are void in them, as 392 bytes. Bytes 0 to 3
 -- are the limit, low byte first; 4 to 7 the white bytes, 0 where there is none; then come 24 places of 16 bytes, each a void name
 -- followed by zeros, or all zeros where there is none.
-use Rattle.std.specs.Prelude.{ℕ, ◌+◌, ◌*◌, ◌-◌, Bool, ◌&&◌, ◌||◌, List, [], ◌∷◌, ◌++◌, map, eqb, leb, ltb, length, get_or, take, replicate}
-use Rattle.rules.specs.Bytes.{is_ident, between, is, other}
+use Rattle.std.specs.Prelude.{ℕ, ◌+◌, ◌*◌, ◌-◌, Bool, true, ◌≡◌, ◌&&◌, ◌||◌, List, [], ◌∷◌, ◌++◌, map, eqb, leb, ltb, length, get_or, take, replicate}
+use Rattle.rules.specs.Bytes.{is_ident, is_white, between, is, other}
 use Rattle.rules.specs.Scan.{skip, part}
 use Rattle.rules.specs.Lists.{from}
 use Rattle.rules.specs.Sound.{all}
-use Rattle.rules.specs.Names.{one_of, void_names}
+use Rattle.rules.specs.Names.{one_of, is_void, void_names}
+
+-- the longest page under any profile: its places and counts fit the words of a table
+abbrev pub page_limit : ℕ
+page_limit = 65536
 
 module _ (q : List ℕ) where
   -- the longest page that is read
@@ -44,7 +48,7 @@ module _ (q : List ℕ) where
   -- the limit, and the white bytes
   unfoldable pub numbers_fine : Bool
   numbers_fine =
-      between 1 65536 limit_of && (leb (get_or q 4 0) 32 && leb (get_or q 5 0) 32 && leb (get_or q 6 0) 32 && leb (get_or q 7 0) 32)
+      between 1 page_limit limit_of && (leb (get_or q 4 0) 32 && leb (get_or q 5 0) 32 && leb (get_or q 6 0) 32 && leb (get_or q 7 0) 32)
 
   unfoldable pub profile_fine : Bool
   profile_fine = numbers_fine && all name_fine 24
@@ -58,3 +62,23 @@ in_places (n ∷ ns) = take 16 (n ++ replicate 16 0) ++ in_places ns
 
 abbrev pub tl_profile : List ℕ
 tl_profile = 0 ∷ 0 ∷ 1 ∷ 0 ∷ 32 ∷ 10 ∷ 0 ∷ 0 ∷ in_places void_names ++ replicate 144 0
+
+-- ---- what the answers ask of a profile
+
+-- whether it is within its limits; the longest page that is read; what is white; which names are void
+pub record Settings : Type 0 where
+  pub fine : Bool
+  pub limit : ℕ
+  pub white : ℕ → Bool
+  pub void : List ℕ → Bool
+
+abbrev pub settings_of : List ℕ → Settings
+settings_of q = record { fine = profile_fine q; limit = limit_of q; white = white_of q; void = void_of q }
+
+-- the rules without a profile
+abbrev pub base : Settings
+base = record { fine = true; limit = page_limit; white = is_white; void = is_void }
+
+-- The theorem on tl's profile: it sets what the rules without a profile say, and so every answer with it is the one without.
+abbrev pub AsWithout : Type 0
+AsWithout = settings_of tl_profile ≡ base

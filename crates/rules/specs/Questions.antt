@@ -1,11 +1,9 @@
 -- Questions about the bytes of a page or a selector, and what the rules answer, as numbers. For tables of examples.
 use Rattle.std.specs.Prelude.{ℕ, List, [], ◌∷◌, map, length, replicate}
-use Rattle.rules.specs.Bytes.{is_white}
-use Rattle.rules.specs.Names.{is_void}
-use Rattle.rules.specs.Reader.{read}
+use Rattle.rules.specs.Profile.{Settings, settings_of, tl_profile}
 use Rattle.rules.specs.Table.{words_of, row_at}
 use Rattle.rules.specs.Refusals.{counted_numbers, ranged_numbers, found_numbers, asked_numbers}
-use Rattle.rules.specs.Answers.{parse_answer, parse_table, range_answer, text_answer, text_buffer, attribute_answer, attribute_part, id_answer}
+use Rattle.rules.specs.Answers.{reading, parse_answer, parse_table, range_answer, text_answer, text_buffer, attribute_answer, attribute_part, id_answer}
 use Rattle.rules.specs.Answers.{class_answer, class_buffer, selector_answer, selector_buffer, query_answer, query_buffer, query_below_answer}
 use Rattle.rules.specs.Answers.{query_below_buffer}
 use Rattle.rules.specs.declared.Manner.{Manner}
@@ -35,28 +33,27 @@ pub data Asking : Type 0 where
 abbrev zeros : ℕ → List ℕ
 zeros n = replicate n 0
 
-abbrev answer_of : List ℕ → List ℕ → Question → List (List ℕ)
-answer_of p ws (range h) = ranged_numbers (range_answer is_white p ws h) ∷ []
-answer_of p ws (text h n) = counted_numbers (text_answer is_white p ws h n) ∷ text_buffer is_white p ws h (zeros n) ∷ []
-answer_of p ws (attribute h k) = asked_numbers (attribute_answer is_white p ws h k) ∷ attribute_part is_white p ws h k ∷ []
-answer_of p ws (id m k) = found_numbers (id_answer is_white p ws m k) ∷ []
-answer_of p ws (class m k n) =
-    counted_numbers (class_answer is_white p ws m k n) ∷ class_buffer is_white p ws m k (zeros n) ∷ []
-answer_of p ws (query s n) = counted_numbers (query_answer is_white p ws s n) ∷ query_buffer is_white p ws s (zeros n) ∷ []
-answer_of p ws (query_below h s n) =
-    counted_numbers (query_below_answer is_white p ws h s n) ∷ query_below_buffer is_white p ws h s (zeros n) ∷ []
+module _ (f : Settings) (p : List ℕ) where
+  abbrev answer_of : List ℕ → Question → List (List ℕ)
+  answer_of ws (range h) = ranged_numbers (range_answer f p ws h) ∷ []
+  answer_of ws (text h n) = counted_numbers (text_answer f p ws h n) ∷ text_buffer f p ws h (zeros n) ∷ []
+  answer_of ws (attribute h k) = asked_numbers (attribute_answer f p ws h k) ∷ attribute_part f p ws h k ∷ []
+  answer_of ws (id m k) = found_numbers (id_answer f p ws m k) ∷ []
+  answer_of ws (class m k n) = counted_numbers (class_answer f p ws m k n) ∷ class_buffer f p ws m k (zeros n) ∷ []
+  answer_of ws (query s n) = counted_numbers (query_answer f p ws s n) ∷ query_buffer f p ws s (zeros n) ∷ []
+  answer_of ws (query_below h s n) = counted_numbers (query_below_answer f p ws h s n) ∷ query_below_buffer f p ws h s (zeros n) ∷ []
 
--- the table of the page's own reading
-abbrev table_of : List ℕ → List ℕ
-table_of p = parse_table is_white is_void p (zeros (row_at (length (read is_white is_void p).nodes)))
+  -- the table of the page's own reading
+  abbrev table_of : List ℕ
+  table_of = parse_table f p (zeros (row_at (length (reading f p).nodes)))
 
-abbrev pub asked : List ℕ → Asking → List (List ℕ)
-asked p rows = map words_of (read is_white is_void p).nodes
-asked p version = ((read is_white is_void p).version ∷ []) ∷ []
-asked p (parse n) = counted_numbers (parse_answer is_white is_void p n) ∷ parse_table is_white is_void p (zeros n) ∷ []
-asked p (own q) = answer_of p (table_of p) q
-asked p (foreign ws q) = answer_of p ws q
-asked s (selector n) = counted_numbers (selector_answer s n) ∷ selector_buffer s (zeros n) ∷ []
+  abbrev pub asked : Asking → List (List ℕ)
+  asked rows = map words_of (reading f p).nodes
+  asked version = ((reading f p).version ∷ []) ∷ []
+  asked (parse n) = counted_numbers (parse_answer f p n) ∷ parse_table f p (zeros n) ∷ []
+  asked (own q) = answer_of table_of q
+  asked (foreign ws q) = answer_of ws q
+  asked (selector n) = counted_numbers (selector_answer p n) ∷ selector_buffer p (zeros n) ∷ []
 
 -- a row's words, as a table of examples writes them: a tag's; and a text's or a comment's, of which the last number is the own handle
 abbrev pub tag_row : ℕ → ℕ → ℕ → ℕ → ℕ → ℕ → ℕ → ℕ → List ℕ
@@ -71,18 +68,23 @@ text_row = other_row 2
 abbrev pub comment_row : ℕ → ℕ → ℕ → ℕ → List ℕ
 comment_row = other_row 3
 
--- an example: the bytes, a question, and what is to be answered
+-- an example: a profile, the bytes, a question, and what is to be answered
 pub record Example : Type 0 where
+  pub profile : List ℕ
   pub given : List ℕ
   pub asking : Asking
   pub says : List (List ℕ)
 
+abbrev pub example_under : List ℕ → List ℕ → Asking → List (List ℕ) → Example
+example_under profile p q s = record { profile = profile; given = p; asking = q; says = s }
+
+-- under tl's profile
 abbrev pub example : List ℕ → Asking → List (List ℕ) → Example
-example p q s = record { given = p; asking = q; says = s }
+example = example_under tl_profile
 
 -- what the rules answer, for each example of a table
 abbrev pub answers : List Example → List (List (List ℕ))
-answers es = map (λ (e : Example). asked e.given e.asking) es
+answers es = map (λ (e : Example). asked (settings_of e.profile) e.given e.asking) es
 
 abbrev pub said : List Example → List (List (List ℕ))
 said es = map (λ (e : Example). e.says) es

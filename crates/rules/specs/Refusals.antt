@@ -1,19 +1,18 @@
 -- The refusals: their numbers and conditions, and what an answer says in numbers.
 use Rattle.std.specs.Prelude.{ℕ, suc, ◌-◌, ◌≡◌, Bool, true, false, not, List, [], ◌∷◌, ◌++◌, eqb, ltb, length, drop, replicate}
-use Rattle.std.specs.Prelude.{Option, Some, None, Result, Ok, Err}
+use Rattle.std.specs.Prelude.{Option, Some, None, Result, Ok, Err, ⊤}
 use Rattle.rules.specs.Scan.{pick, part}
+use Rattle.rules.specs.Profile.{Settings}
 use Rattle.rules.specs.Sound.{sound, is_tag}
 use Rattle.rules.specs.declared.Refusal.{Refusal}
 use Rattle.rules.specs.declared.Refusal.TheVariants.{PageTooLong, TableTooSmall, TableNotSound, NotATag, SelectorTooLong, SelectorNotRead, BufferTooShort}
+use Rattle.rules.specs.declared.Refusal.TheVariants.{ProfileNotFine}
 use Rattle.rules.specs.declared.Held.{Held}
 use Rattle.rules.specs.declared.Manner.{Manner}
 use Rattle.rules.specs.declared.Manner.TheVariants.{Scan, Closed}
 use Rattle.rules.specs.declared.Held.TheVariants.{Absent, Bare, Value}
 
--- the longest page and the longest selector
-abbrev pub page_limit : ℕ
-page_limit = 65536
-
+-- the longest selector
 abbrev pub selector_limit : ℕ
 selector_limit = 128
 
@@ -25,12 +24,17 @@ number_of NotATag = 4
 number_of SelectorTooLong = 5
 number_of SelectorNotRead = 6
 number_of BufferTooShort = 7
+number_of ProfileNotFine = 14
 
--- ---- the conditions
+-- ---- the conditions, under what the profile sets
+
+-- 14
+abbrev pub profile_not_fine : Settings → Bool
+profile_not_fine f = not f.fine
 
 -- 1
-abbrev pub page_too_long : List ℕ → Bool
-page_too_long p = ltb page_limit (length p)
+abbrev pub page_too_long : Settings → List ℕ → Bool
+page_too_long f p = ltb f.limit (length p)
 
 -- 3
 abbrev pub table_not_sound : List ℕ → List ℕ → Bool
@@ -48,18 +52,28 @@ selector_too_long s = ltb selector_limit (length s)
 abbrev pub counted : ℕ → ℕ → Result ℕ Refusal
 counted room n = pick (ltb room n) (Err BufferTooShort) (Ok n)
 
--- neither 1 nor 3: the table is sound for a page that is not too long
-pub record Sound (p ws : List ℕ) : Type 0 where
-  pub short : page_too_long p ≡ false
+-- neither 14 nor 1 nor 3: the profile is within its limits, and the table is sound for a page that is not too long
+pub record Sound (f : Settings) (p ws : List ℕ) : Type 0 where
+  pub fine : profile_not_fine f ≡ false
+  pub short : page_too_long f p ≡ false
   pub table : sound (length p) ws ≡ true
 
--- refusals 1 and 3, which every question to a table comes after, and 4, where it is one about a tag
-module _ {A : Type 0} (p ws : List ℕ) where
-  abbrev pub asking : Result A Refusal → Result A Refusal
-  asking answer = pick (page_too_long p) (Err PageTooLong) (pick (table_not_sound p ws) (Err TableNotSound) answer)
+-- refusals 14 and 1, which every call on a page comes after; 3, if it asks a table; and 4, if about a tag
+module _ {A : Type 0} (f : Settings) (p : List ℕ) where
+  abbrev pub on_page : Result A Refusal → Result A Refusal
+  on_page answer = pick (profile_not_fine f) (Err ProfileNotFine) (pick (page_too_long f p) (Err PageTooLong) answer)
 
-  abbrev pub asking_tag : ℕ → Result A Refusal → Result A Refusal
-  asking_tag h answer = asking (pick (not_a_tag ws h) (Err NotATag) answer)
+  module _ (ws : List ℕ) where
+    abbrev pub asking : Result A Refusal → Result A Refusal
+    asking answer = on_page (pick (table_not_sound p ws) (Err TableNotSound) answer)
+
+    abbrev pub asking_tag : ℕ → Result A Refusal → Result A Refusal
+    asking_tag h answer = asking (pick (not_a_tag ws h) (Err NotATag) answer)
+
+-- what a check tells: that nothing is refused, or why
+abbrev pub told : {A : Type 0} → Result A Refusal → Result ⊤ Refusal
+told (Ok a) = Ok tt
+told (Err x) = Err x
 
 -- a lent buffer afterwards: what was found in its first entries and the rest as it was, or all zeros
 abbrev pub filled_by : List ℕ → List ℕ → Result ℕ Refusal → List ℕ

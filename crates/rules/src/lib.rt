@@ -226,7 +226,7 @@ pub struct Join {
 
 // ---- answers
 
-// Why a call is refused. Its number, 1 to 7, is what a caller of the exports gets.
+// Why a call is refused. Its number, 1 to 7 or 14, is what a caller of the exports gets.
 #[derive(Clone, Copy, PartialEq, Eq)]
 pub enum Refusal {
     PageTooLong = 1,
@@ -236,6 +236,7 @@ pub enum Refusal {
     SelectorTooLong,
     SelectorNotRead,
     BufferTooShort,
+    ProfileNotFine = 14,
 }
 
 impl From<Refusal> for u32 {

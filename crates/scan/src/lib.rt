@@ -1,5 +1,5 @@
 // Scans over a page: tl's util and simd, and Stream's reads of one byte. A place past the end counts as the end.
-// The tests of a byte read one table of marks. A caller makes it once, by `Marks::new`, and lends it down: used in place, the
+// The tests of a byte read one table of marks. A caller makes it once, by `Profile::marks`, and lends it down: used in place, the
 // constant would be built anew at each use.
 
 #![tactic(auto)]

@@ -8,7 +8,6 @@ use native.Mathlib.Omega.{arith}
 use lib.ListN.{length, length-append, length-set}
 use lib.Seq.{get_or-append_seam}
 use Rattle.rules.specs.Scan.{pick, part, same}
-use Rattle.rules.specs.Names.{is_void}
 use Rattle.rules.specs.Reader.{Reading, no_node, parent_of, moved, pushed, leaf, tag_node, closed, ended_by, close_into, put}
 use Rattle.rules.specs.Table.{row_at, row_words, node_at, put_row}
 use Rattle.rules.specs.declared.Item.TheVariants.{Close, Doctype, Tag}
@@ -86,11 +85,11 @@ module _ {t₁ t hd : List ℕ} {R : Reading} {s : State} (H : Held t₁ t hd R 
       held_next x R.opens (rw (← H.rows.innermost, ← H.count) W) (still x) H.rows.innermost
 
   -- shut says that the tag is never opened
-  pub held_tag : (p : List ℕ) {a e n : ℕ} (slash : Bool) {shut : Bool} {t₂ : List ℕ} → (slash || is_void (part p a e)) ≡ shut
+  pub held_tag : (void : List ℕ → Bool) (p : List ℕ) {a e n : ℕ} (slash : Bool) {shut : Bool} {t₂ : List ℕ} → (slash || void (part p a e)) ≡ shut
       → Written t₁ s.count (tag_row s a e n shut) t₂
-      → Held t₂ t hd (put is_void p R (Tag a e n slash)) (added_to s n (pick shut s.inner (s.count + 1)))
+      → Held t₂ t hd (put void p R (Tag a e n slash)) (added_to s n (pick shut s.inner (s.count + 1)))
   unfolding put
-  held_tag p {a} {e} {n} slash {shut = shut} {t₂ = t₂} b W = rw b (go shut)
+  held_tag void p {a} {e} {n} slash {shut = shut} {t₂ = t₂} b W = rw b (go shut)
     where
       new : Node
       new = tag_node R a e n shut
@@ -115,27 +114,27 @@ module _ {t₁ t hd : List ℕ} {R : Reading} {s : State} (H : Held t₁ t hd R 
   pub held_moved : (at : ℕ) → Held t₁ t hd (moved R at) (moved_to s at)
   held_moved at = record { rows = H.rows; at = refl; count = H.count; version = H.version }
 
-  pub held_version : (p : List ℕ) (html : Bool) (at : ℕ) → Held t₁ t hd (put is_void p R (Doctype html at)) (version_to s html at)
+  pub held_version : (void : List ℕ → Bool) (p : List ℕ) (html : Bool) (at : ℕ) → Held t₁ t hd (put void p R (Doctype html at)) (version_to s html at)
   unfolding put
-  held_version p html at = record { rows = H.rows; at = refl; count = H.count; version = ap (pick html 5) H.version }
+  held_version void p html at = record { rows = H.rows; at = refl; count = H.count; version = ap (pick html 5) H.version }
 
   -- ---- a closing name
 
-  module _ (p : List ℕ) (a e n : ℕ) where
-    pub held_none : s.inner ≡ 0 → Held t₁ t hd (put is_void p R (Close a e n)) (moved_to s n)
+  module _ (void : List ℕ → Bool) (p : List ℕ) (a e n : ℕ) where
+    pub held_none : s.inner ≡ 0 → Held t₁ t hd (put void p R (Close a e n)) (moved_to s n)
     unfolding put close_into
     held_none z = let o = none_open H.rows z in rw o (rw o at (held_moved n))
 
     -- m is the row of the innermost open tag, and x says whether it has the name
     module _ (some : 0 < s.inner) {m : Node} (em : m ≡ node_at t₁ (s.inner - 1)) {x : Bool}
         (ex : x ≡ same (part p m.name m.stop) (part p a e)) where
-      pub held_other : x ≡ false → Held t₁ t hd (put is_void p R (Close a e n)) (moved_to s n)
+      pub held_other : x ≡ false → Held t₁ t hd (put void p R (Close a e n)) (moved_to s n)
       unfolding put close_into
       held_other y = let tag = innermost H.rows some in rw (tag.opens, ← tag.row, ← em, ← ex, y) (rw tag.opens at (held_moved n))
 
       pub held_close : {t₂ : List ℕ} → x ≡ true
           → t₂ ≡ put_row t₁ (s.inner - 1) (closed (node_at t₁ (s.inner - 1)) n (s.count - 1) (ended_by e n))
-          → Held t₂ t hd (put is_void p R (Close a e n)) (record { at = n; count = s.count; inner = m.parent; version = s.version })
+          → Held t₂ t hd (put void p R (Close a e n)) (record { at = n; count = s.count; inner = m.parent; version = s.version })
       unfolding put close_into
       held_close y w =
           let tag = innermost H.rows some in

@@ -3,7 +3,7 @@ use Rattle.std.specs.Prelude.{◌≡◌, Bool, List, [], ◌∷◌, ℕ, ◌+◌
 use Rattle.rules.specs.Scan.{pick}
 use Rattle.rules.specs.Reader.{Reading, node, parent_of, with_last}
 use Rattle.rules.specs.Table.{row_at, row_words, node_at, put_row, Filled}
-use Rattle.rules.specs.Refusals.{page_limit}
+use Rattle.rules.specs.Profile.{page_limit}
 use Rattle.rules.specs.declared.Item.{Item}
 use Rattle.rules.specs.declared.Item.TheVariants.{Text, Close, Comment, Doctype, Tag, Nothing}
 use Rattle.rules.specs.declared.Node.{Node}

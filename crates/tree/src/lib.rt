@@ -3,14 +3,14 @@
 
 #![tactic(auto)]
 
-ghost use Rattle.std.specs.Prelude.{◌≡◌, ◌≤◌, ◌<◌, length};
+ghost use Rattle.std.specs.Prelude.{◌≡◌, ◌≤◌, ◌<◌, Bool, List, ℕ, length};
 ghost use Rattle.rules.specs.Scan.{pick, part, same};
-ghost use Rattle.rules.specs.Names.{is_void};
 ghost use Rattle.rules.specs.Reader.{Reading, pushed, leaf, ended_by, put as put_item};
-ghost use Rattle.rules.specs.Refusals.{page_limit};
+ghost use Rattle.rules.specs.Profile.{page_limit, void_of};
 ghost use Rattle.rules.specs.declared.Item.TheVariants.{Tag, Close};
 ghost use Rattle.tree.specs.Held.{Step, Room, Inner, Within, Fits, Registered, moved_to, added_to, version_to, Open, Settled};
 
+use profile::VoidNames;
 use rules::{Ended, HTML5, Item, Kind, Node, State};
 
 // ---- page and table go as two: the table is being written, and is no document before the end. The page is within the limit, as the reading
@@ -91,14 +91,6 @@ fn put_leaf(
     Some(added(s, next, inner))
 }
 
-// Whether the name from a to e is void.
-fn is_void_name(page: &[u8], a: usize, e: usize) -> bool
-    requires { Within (length page.now) a e }
-    ensures { result ≡ is_void (part page.now a e) }
-{
-    constants::is_void(&page[a..e])
-}
-
 // How a new tag has ended so far, as its row's word, where `shut` says that it is not opened.
 fn ended_new(shut: bool) -> u32
     ensures { result ≡ pick shut 3 0 }
@@ -127,6 +119,7 @@ fn ended_by(e: usize, next: usize) -> u32
 // It becomes the innermost open tag, unless it ended in `/>` or its name is void.
 fn put_tag(
     table: &mut [u32],
+    void: &VoidNames,
     page: &[u8],
     s: State,
     a: usize,
@@ -135,11 +128,11 @@ fn put_tag(
     slash: bool,
 ) -> Option<State>
     requires { Room table.old s × Fits (length page.now) s.at (Tag a e next slash) × (length page.now ≤ page_limit) }
-    ensures { Step (λ (R : Reading). put_item is_void page.now R (Tag a e next slash)) table.old s table.new result }
+    ensures { Step (λ (R : Reading). put_item (void_of void.now.profile.bytes.now) page.now R (Tag a e next slash)) table.old s table.new result }
 {
     let h = s.count;
     let inner = s.inner;
-    let shut = slash | is_void_name(page, a, e);
+    let shut = slash | void.is_void(page, a, e);
     let ended = ended_new(shut);
     let n = Node {
         kind: Kind::Tag as u32,
@@ -175,7 +168,7 @@ fn close_tag(table: &mut [u32], page: &[u8], s: State, a: usize, e: usize, next:
         × Inner table.old s (length page.now)
         × Fits (length page.now) s.at (Close a e next)
         × (length page.now ≤ page_limit) }
-    ensures { Step (λ (R : Reading). put_item is_void page.now R (Close a e next)) table.old s table.new (Some result) }
+    ensures { (void : List ℕ → Bool) → Step (λ (R : Reading). put_item void page.now R (Close a e next)) table.old s table.new (Some result) }
 {
     let inner = s.inner as usize;
     if inner == 0 {
@@ -197,12 +190,12 @@ fn close_tag(table: &mut [u32], page: &[u8], s: State, a: usize, e: usize, next:
 }
 
 // Puts what stands at the state's place into the table; `None` where there is no room for its row.
-pub fn put(table: &mut [u32], page: &[u8], s: State, item: Item) -> Option<State>
+pub fn put(table: &mut [u32], void: &VoidNames, page: &[u8], s: State, item: Item) -> Option<State>
     requires { Room table.old s
         × Inner table.old s (length page.now)
         × Fits (length page.now) s.at item
         × (length page.now ≤ page_limit) }
-    ensures { Step (λ (R : Reading). put_item is_void page.now R item) table.old s table.new result }
+    ensures { Step (λ (R : Reading). put_item (void_of void.now.profile.bytes.now) page.now R item) table.old s table.new result }
 {
     match item {
         Item::Text(e) => {
@@ -224,7 +217,7 @@ pub fn put(table: &mut [u32], page: &[u8], s: State, item: Item) -> Option<State
             stop,
             next,
             slash,
-        } => put_tag(table, page, s, name, stop, next, slash),
+        } => put_tag(table, void, page, s, name, stop, next, slash),
         Item::Nothing(next) => Some(moved(s, next)),
     }
 }

@@ -1,7 +1,10 @@
 //! Our calls beside tl's: the same pages, the same driver, one run. Prints a table of times and ratios.
+#[cfg(before)]
+mod before;
 mod linear;
 mod ours;
 mod pages;
+mod profiles;
 mod theirs;
 mod timing;
 
@@ -11,8 +14,9 @@ use timing::{best, micros};
 /// tl descends by recursion, as deep as a page nests.
 const STACK: usize = 4 << 30;
 
-/// The word that asks for the times at half the length.
-const LINEAR: &str = "linear";
+/// The words that ask for other tables than those of the pages beside tl: void tags and names near theirs; what another profile
+/// costs, and what any costs a call; the version before; the times at half the length.
+const OTHERS: [&str; 5] = ["void", "profile", "call", "before", "linear"];
 
 /// What is measured of one page: our time and tl's, in nanoseconds.
 struct Row {
@@ -133,21 +137,62 @@ fn report(page: &Page) {
     }
 }
 
+/// Reading beside tl, where each new tag's name is held to the void ones.
+fn void_and_near(pages: &[Page]) {
+    println!("\n### void tags, and names near theirs\n");
+    println!("| read | bytes | nodes | ours, µs | tl, µs | tl / ours |\n|---|---|---|---|---|---|");
+    for page in pages {
+        let text = page.text.as_str();
+        let mut our = ours::Reader::new(text.as_bytes());
+        let (ours, tl) = best(|| our.read(), || theirs::drop_read(text, theirs::SCAN));
+        println!(
+            "| {} | {} | {} | {} | {} | {:.2} |",
+            page.name,
+            text.len(),
+            our.nodes(),
+            micros(ours),
+            micros(tl),
+            tl / ours
+        );
+    }
+}
+
+/// Prints one of the other tables.
+fn other(word: &str, pages: &[Page], near: &[Page]) {
+    match word {
+        "void" => void_and_near(near),
+        "profile" => profiles::report(pages.iter().chain(near)),
+        "call" => profiles::of_one_call(),
+        #[cfg(before)]
+        "before" => before::report(pages, near),
+        "linear" => linear::report(),
+        _ => {}
+    }
+}
+
+fn run(asked: &[String]) {
+    let (others, parts): (Vec<&str>, Vec<&str>) = asked
+        .iter()
+        .map(String::as_str)
+        .partition(|word| OTHERS.contains(word));
+    let named = |page: &Page| parts.is_empty() || parts.iter().any(|part| page.name.contains(part));
+    let only = |all: Vec<Page>| all.into_iter().filter(named).collect::<Vec<_>>();
+    let (pages, near) = (only(pages::all()), only(pages::void_and_near()));
+    if others.is_empty() || !parts.is_empty() {
+        pages.iter().for_each(report);
+    }
+    // without a word all are asked
+    let all = asked.is_empty().then_some(OTHERS);
+    for word in all.into_iter().flatten().chain(others) {
+        other(word, &pages, &near);
+    }
+}
+
 fn main() {
-    let only: Vec<String> = std::env::args().skip(1).collect();
-    let run = move || {
-        for page in pages::all() {
-            if only.is_empty() || only.iter().any(|part| page.name.contains(part.as_str())) {
-                report(&page);
-            }
-        }
-        if only.is_empty() || only.iter().any(|part| part == LINEAR) {
-            linear::report();
-        }
-    };
+    let asked: Vec<String> = std::env::args().skip(1).collect();
     let thread = std::thread::Builder::new()
         .stack_size(STACK)
-        .spawn(run)
+        .spawn(move || run(&asked))
         .expect("a thread with a large stack");
     if thread.join().is_err() {
         std::process::exit(1);

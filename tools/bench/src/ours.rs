@@ -1,6 +1,10 @@
 //! Our calls, with buffers that are made once and lent to every call.
+#[cfg(before)]
+use crate::before::sys as before;
+use crate::timing::best_of;
+use std::cell::RefCell;
 use std::hint::black_box;
-use tl_rattle::{sys, words_for};
+use tl_rattle::{sys, words_for, Profile};
 
 pub const SCAN: u32 = 0;
 pub const CLOSED: u32 = 1;
@@ -29,8 +33,57 @@ impl Names {
     }
 }
 
-/// A page, its table, and the buffers.
+/// Which calls are asked.
+#[derive(Clone, Copy)]
+pub enum Calls {
+    /// This library's, by a profile.
+    By(&'static Profile),
+    /// Those of the version before, which take none.
+    #[cfg(before)]
+    Before,
+}
+
+/// This library's, by tl's profile.
+pub const BY_TLS: Calls = Calls::By(&Profile::TL);
+
+/// The least times of a call, asked in several ways in turns, in nanoseconds.
+pub fn in_turns<const N: usize>(
+    reader: &mut Reader,
+    ways: [Calls; N],
+    call: impl Fn(&mut Reader),
+) -> [f64; N] {
+    // one reader for all, so that none has its buffers at a better place
+    let reader = RefCell::new(reader);
+    best_of(ways.map(|calls| {
+        let (reader, call) = (&reader, &call);
+        move || {
+            let reader = &mut *reader.borrow_mut();
+            reader.calls = calls;
+            call(reader);
+        }
+    }))
+}
+
+/// Lends a reader's page and table to a call, and what else it takes. It must not be refused.
+macro_rules! ask {
+    ($reader:ident.$call:ident($($other:expr),* $(,)?)) => {{
+        let (page, table) = ($reader.page, &mut $reader.table);
+        let (page, many, words, room) = (page.as_ptr(), page.len(), table.as_mut_ptr(), table.len());
+        // SAFETY: the slices are whole, and none overlaps another.
+        let refused = match $reader.calls {
+            Calls::By(profile) => unsafe {
+                sys::$call(profile.as_raw(), page, many, words, room, $($other),*)
+            },
+            #[cfg(before)]
+            Calls::Before => unsafe { before::$call(page, many, words, room, $($other),*) },
+        };
+        assert_eq!(refused, 0);
+    }};
+}
+
+/// A page, its table, and the buffers. All is asked by tl's profile, unless other calls are said.
 pub struct Reader<'a> {
+    pub calls: Calls,
     page: &'a [u8],
     table: Vec<u32>,
     finds: Vec<u32>,
@@ -43,6 +96,7 @@ pub struct Reader<'a> {
 impl<'a> Reader<'a> {
     pub fn new(page: &'a [u8]) -> Self {
         Reader {
+            calls: BY_TLS,
             page,
             table: vec![0; words_for(NODES)],
             finds: vec![0; NODES],
@@ -61,148 +115,100 @@ impl<'a> Reader<'a> {
         self.found
     }
 
+    /// The words of the header and of all rows.
+    #[cfg(before)]
+    pub fn table(&self) -> &[u32] {
+        &self.table[..words_for(self.nodes())]
+    }
+
     pub fn read(&mut self) {
         let mut count = 0;
-        // SAFETY: the slices are whole, and none overlaps another.
-        let refused = unsafe {
-            sys::tl_parse(
-                self.page.as_ptr(),
-                self.page.len(),
-                self.table.as_mut_ptr(),
-                self.table.len(),
-                &mut count,
-            )
-        };
-        assert_eq!(refused, 0);
+        ask!(self.tl_parse(&mut count));
         black_box(count);
     }
 
+    /// The range of a tag.
+    pub fn range(&mut self, handle: usize) {
+        let mut answer = [0; 3];
+        ask!(self.tl_range(handle, answer.as_mut_ptr()));
+        black_box(answer);
+    }
+
     pub fn class(&mut self, manner: u32, name: &str) {
-        let mut count = 0;
-        // SAFETY: as in `read`.
-        let refused = unsafe {
-            sys::tl_get_elements_by_class_name(
-                self.page.as_ptr(),
-                self.page.len(),
-                self.table.as_ptr(),
-                self.table.len(),
-                manner,
-                name.as_ptr(),
-                name.len(),
-                self.finds.as_mut_ptr(),
-                self.finds.len(),
-                &mut count,
-            )
-        };
-        assert_eq!(refused, 0);
+        let (mut count, finds) = (0, &mut self.finds);
+        ask!(self.tl_get_elements_by_class_name(
+            manner,
+            name.as_ptr(),
+            name.len(),
+            finds.as_mut_ptr(),
+            finds.len(),
+            &mut count,
+        ));
         black_box(count);
     }
 
     pub fn id(&mut self, manner: u32, name: &str) {
         let mut answer = [0; 2];
-        // SAFETY: as in `read`.
-        let refused = unsafe {
-            sys::tl_get_element_by_id(
-                self.page.as_ptr(),
-                self.page.len(),
-                self.table.as_ptr(),
-                self.table.len(),
-                manner,
-                name.as_ptr(),
-                name.len(),
-                answer.as_mut_ptr(),
-            )
-        };
-        assert_eq!(refused, 0);
+        let (start, len) = (name.as_ptr(), name.len());
+        ask!(self.tl_get_element_by_id(manner, start, len, answer.as_mut_ptr()));
         black_box(answer);
     }
 
     pub fn query(&mut self, selector: &str) {
-        // SAFETY: as in `read`.
-        let refused = unsafe {
-            sys::tl_query_selector(
-                self.page.as_ptr(),
-                self.page.len(),
-                self.table.as_ptr(),
-                self.table.len(),
-                selector.as_ptr(),
-                selector.len(),
-                self.finds.as_mut_ptr(),
-                self.finds.len(),
-                &mut self.found,
-            )
-        };
-        assert_eq!(refused, 0);
+        let finds = &mut self.finds;
+        ask!(self.tl_query_selector(
+            selector.as_ptr(),
+            selector.len(),
+            finds.as_mut_ptr(),
+            finds.len(),
+            &mut self.found,
+        ));
     }
 
     /// The texts of all the rows that the last query found, in one call.
     pub fn texts(&mut self) {
         let mut count = 0;
-        // SAFETY: as in `read`.
-        let refused = unsafe {
-            sys::tl_inner_texts(
-                self.page.as_ptr(),
-                self.page.len(),
-                self.table.as_ptr(),
-                self.table.len(),
-                self.finds.as_ptr(),
-                self.found,
-                self.ends.as_mut_ptr(),
-                self.ends.len(),
-                self.text.as_mut_ptr(),
-                self.text.len(),
-                &mut count,
-            )
-        };
-        assert_eq!(refused, 0);
+        ask!(self.tl_inner_texts(
+            self.finds.as_ptr(),
+            self.found,
+            self.ends.as_mut_ptr(),
+            self.ends.len(),
+            self.text.as_mut_ptr(),
+            self.text.len(),
+            &mut count,
+        ));
         black_box(count);
     }
 
     /// What all these rows hold for a name, in one call.
     pub fn attributes(&mut self, name: &str) {
         let mut count = 0;
-        // SAFETY: as in `read`.
-        let refused = unsafe {
-            sys::tl_attributes(
-                self.page.as_ptr(),
-                self.page.len(),
-                self.table.as_ptr(),
-                self.table.len(),
-                self.finds.as_ptr(),
-                self.found,
-                name.as_ptr(),
-                name.len(),
-                self.answers.as_mut_ptr(),
-                self.answers.len(),
-                &mut count,
-            )
-        };
-        assert_eq!(refused, 0);
+        ask!(self.tl_attributes(
+            self.finds.as_ptr(),
+            self.found,
+            name.as_ptr(),
+            name.len(),
+            self.answers.as_mut_ptr(),
+            self.answers.len(),
+            &mut count,
+        ));
         black_box(count);
     }
 
     /// What all these rows hold for each of several names, in one call.
     pub fn attributes_for_names(&mut self, Names { text, ends }: &Names) {
         let mut count = 0;
-        // SAFETY: as in `read`.
-        let refused = unsafe {
-            sys::tl_attributes_for_names(
-                self.page.as_ptr(),
-                self.page.len(),
-                self.table.as_ptr(),
-                self.table.len(),
-                self.finds.as_ptr(),
-                self.found,
-                text.as_ptr(),
-                text.len(),
-                ends.as_ptr(),
-                ends.len(),
-                self.answers.as_mut_ptr(),
-                self.answers.len(),
-                &mut count,
-            )
-        };
-        assert_eq!(refused, 0);
+        ask!(self.tl_attributes_for_names(
+            self.finds.as_ptr(),
+            self.found,
+            text.as_ptr(),
+            text.len(),
+            ends.as_ptr(),
+            ends.len(),
+            self.answers.as_mut_ptr(),
+            self.answers.len(),
+            &mut count,
+        ));
         black_box(count);
     }
 
@@ -242,40 +248,15 @@ impl<'a> Reader<'a> {
     /// The text of a tag.
     pub fn text_of(&mut self, handle: usize) {
         let mut count = 0;
-        // SAFETY: as in `read`.
-        let refused = unsafe {
-            sys::tl_inner_text(
-                self.page.as_ptr(),
-                self.page.len(),
-                self.table.as_ptr(),
-                self.table.len(),
-                handle,
-                self.text.as_mut_ptr(),
-                self.text.len(),
-                &mut count,
-            )
-        };
-        assert_eq!(refused, 0);
+        ask!(self.tl_inner_text(handle, self.text.as_mut_ptr(), self.text.len(), &mut count));
         black_box(count);
     }
 
     /// What the first of them holds for a name.
     pub fn attribute(&mut self, name: &str) {
         let mut answer = [0; 3];
-        // SAFETY: as in `read`.
-        let refused = unsafe {
-            sys::tl_attribute(
-                self.page.as_ptr(),
-                self.page.len(),
-                self.table.as_ptr(),
-                self.table.len(),
-                self.finds[0] as usize,
-                name.as_ptr(),
-                name.len(),
-                answer.as_mut_ptr(),
-            )
-        };
-        assert_eq!(refused, 0);
+        let (handle, len) = (self.finds[0] as usize, name.len());
+        ask!(self.tl_attribute(handle, name.as_ptr(), len, answer.as_mut_ptr()));
         black_box(answer);
     }
 }

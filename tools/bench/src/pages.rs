@@ -3,7 +3,7 @@
 /// A page with what is asked of it.
 pub struct Page {
     /// What the report calls it.
-    pub name: &'static str,
+    pub name: String,
     /// The page.
     pub text: String,
     /// A class that its rows carry.
@@ -61,13 +61,13 @@ pub fn rows(size: usize, closed: bool) -> String {
     repeated(size, HEAD, TAIL, |i| fill(i, closed))
 }
 
-fn execution(name: &'static str, size: usize, closed: bool) -> Page {
+fn execution(name: &str, size: usize, closed: bool) -> Page {
     page(name, rows(size, closed))
 }
 
-fn page(name: &'static str, text: String) -> Page {
+fn page(name: &str, text: String) -> Page {
     Page {
-        name,
+        name: String::from(name),
         text,
         class: "fill",
         id: "foot",
@@ -76,55 +76,85 @@ fn page(name: &'static str, text: String) -> Page {
     }
 }
 
-fn other(name: &'static str, text: String, selector: &'static str) -> Page {
+fn other(name: &str, text: String, selector: &'static str) -> Page {
     Page {
         selector,
         ..page(name, text)
     }
 }
 
-/// All of them.
+/// Those of which everything is asked.
 pub fn all() -> Vec<Page> {
+    let mut all = executions();
+    all.extend(of_one_kind());
+    all
+}
+
+fn executions() -> Vec<Page> {
     vec![
+        execution("execution table, 1 KiB", 1280, true),
         execution("execution table, 4 KiB", 4 << 10, true),
         execution("execution table, 16 KiB", 16 << 10, true),
         execution("execution table, 64 KiB", LIMIT, true),
         execution("rows and cells never closed", LIMIT, false),
-        other(
-            "dense tags",
-            repeated(LIMIT, "", "", |i| {
-                format!("<b><i class=fill>{}</i></b>", i % 10)
-            }),
-            "i.fill",
-        ),
-        other(
-            "long text",
-            repeated(LIMIT, "<p class=fill>", "</p>", |_| {
-                String::from("a fill was booked and reported; ")
-            }),
-            "p.fill",
-        ),
-        other(
-            "many attributes",
-            repeated(LIMIT, "", "", |i| {
-                format!("<td class=fill a{i}=1 b=\"two words\" c='x' d e=5 data-fill=F{i} f=6 g=7>")
-            }),
-            "td.fill",
-        ),
-        other(
-            "comments",
-            repeated(LIMIT, "", "", |i| {
-                format!("<!-- fill {i} - not yet booked --><b class=fill>x</b>")
-            }),
-            "b.fill",
-        ),
-        other(
-            "nested tags, closed",
-            nested(LIMIT, "<div class=fill>", "</div>"),
-            "div.fill",
-        ),
+    ]
+}
+
+/// Pages that are mostly of one thing.
+fn of_one_kind() -> Vec<Page> {
+    let dense = |i| format!("<b><i class=fill>{}</i></b>", i % 10);
+    let long = |_| String::from("a fill was booked and reported; ");
+    let many =
+        |i| format!("<td class=fill a{i}=1 b=\"two words\" c='x' d e=5 data-fill=F{i} f=6 g=7>");
+    let comments = |i| format!("<!-- fill {i} - not yet booked --><b class=fill>x</b>");
+    let long = repeated(LIMIT, "<p class=fill>", "</p>", long);
+    let nested = nested(LIMIT, "<div class=fill>", "</div>");
+    vec![
+        other("dense tags", repeated(LIMIT, "", "", dense), "i.fill"),
+        other("long text", long, "p.fill"),
+        other("many attributes", repeated(LIMIT, "", "", many), "td.fill"),
+        other("comments", repeated(LIMIT, "", "", comments), "b.fill"),
+        other("nested tags, closed", nested, "div.fill"),
         other("nested `<>`", "<>".repeat(LIMIT / 2), "x"),
     ]
+}
+
+/// Void tags, and tags whose names are as long as a void one's, or begin or end as one does: each new tag's name is held to the void
+/// names. Those of the last but one have a void name's length, first byte and last byte.
+const VOID_AND_NEAR: [(&str, &str); 7] = [
+    ("void tags: br hr", "<br><hr>"),
+    ("void tags: meta wbr input area", "<meta><wbr><input><area>"),
+    (
+        "void tags: all",
+        "<area><base><br><col><embed><hr><img><input><keygen><link><meta><param><source><track><wbr>",
+    ),
+    (
+        "void tags with attributes",
+        "<br class=fill>x<img src=a data-fill=F1><input type=text data-rev=1 data-side=buy><link rel=x><hr>",
+    ),
+    (
+        "names near void ones: table colgroup bar",
+        "<table><colgroup></colgroup><bar></bar><body><form>x</form><td>y</td><section>z</section></body></table>",
+    ),
+    (
+        "names near void ones: aqua bone cal",
+        "<aqua><bone></bone><cal></cal><ended></ended><ing></ing><inset></inset></aqua>\
+         <kitten><lock></lock><mama></mama><prism></prism><single></single><trunk></trunk><war></war></kitten>",
+    ),
+    (
+        "names of a sender's own",
+        "<execution-report><x-fill>7</x-fill><x-leg></x-leg><trade-link></trade-link></execution-report>",
+    ),
+];
+
+/// Pages of these, of just over 1 KiB and as long as can be.
+pub fn void_and_near() -> Vec<Page> {
+    let both = VOID_AND_NEAR.map(|(name, part)| {
+        let sized = |times, size| page(&format!("{name}, {size}"), part.repeat(times));
+        let short = 1024_usize.div_ceil(part.len());
+        [sized(short, "1 KiB"), sized(LIMIT / part.len(), "64 KiB")]
+    });
+    both.into_iter().flatten().collect()
 }
 
 /// As many tags as fit into so many bytes, one inside the other, all of them closed.

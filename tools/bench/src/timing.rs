@@ -39,6 +39,17 @@ pub fn best(mut one: impl FnMut(), mut other: impl FnMut()) -> (f64, f64) {
     })
 }
 
+/// The least times that several calls took, in nanoseconds.
+pub fn best_of<F: FnMut(), const N: usize>(mut calls: [F; N]) -> [f64; N] {
+    let mut least = [f64::MAX; N];
+    for _ in 0..TURNS {
+        for (least, call) in least.iter_mut().zip(&mut calls) {
+            *least = least.min(turn(call));
+        }
+    }
+    least
+}
+
 /// A time in microseconds, with three digits that count.
 pub fn micros(nanoseconds: f64) -> String {
     let us = nanoseconds / 1e3;

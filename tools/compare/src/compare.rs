@@ -2,13 +2,15 @@
 //!
 //! The library is held to the paper, as the model has it. tl is held to the model too, answering in tl's way (`model::TL`),
 //! which is the paper's but for the departures of docs/DIFFERENCES.md. So library and tl agree wherever no departure is
-//! counted, and where one is counted both are what the list says.
+//! counted, and where one is counted both are what the list says. All this is under tl's profile; under others there is the model
+//! alone.
 mod lists;
 
 use crate::asks::Asks;
 use crate::findings::{Departure, Difference, Findings};
 use crate::model::{
-    self, Asked, Manner, Piece, Reading, Row, Way, PAGE_LIMIT, PAPER, SELECTOR_LIMIT, TL,
+    self, tl_profile, Asked, Manner, Piece, Profile, ProfileBytes, Reading, Row, Way, PAPER,
+    SELECTOR_LIMIT, TL, TL_BYTES,
 };
 use crate::ours::{self, Answer, Ours, Refusal};
 use crate::question::Question;
@@ -16,31 +18,49 @@ use crate::random::Random;
 use crate::tl_side::{self, as_str, TlPage, TlRow};
 use std::fmt::Debug;
 
-/// Reads a page on all sides and asks what `asks` names.
+/// Reads a page under tl's profile on all sides and asks what `asks` names.
 pub fn page(page: &[u8], asks: impl FnOnce(&Asked) -> Asks, random: &mut Random) -> Findings {
-    let reading = model::read(page);
+    let tl = TlPage::read(as_str(page));
+    reading(page, &TL_BYTES, Some(tl), asks, random)
+}
+
+/// The same under any profile, beside the model alone.
+pub fn page_under(
+    page: &[u8],
+    profile: &ProfileBytes,
+    asks: impl FnOnce(&Asked) -> Asks,
+    random: &mut Random,
+) -> Findings {
+    reading(page, profile, None, asks, random).without_departures()
+}
+
+fn reading<'p>(
+    page: &'p [u8],
+    profile: &'p ProfileBytes,
+    tl: Option<TlPage<'p>>,
+    asks: impl FnOnce(&Asked) -> Asks,
+    random: &mut Random,
+) -> Findings {
+    let rules = Rules::of(profile, page);
+    let reading = model::read(page, &rules.profile);
     let words = model::words_of(page.len(), &reading);
     // Words after the last row mean nothing.
     let mut table = words.clone();
     table.resize(words.len() + random.below(12), ours::MARK);
-    let too_long = page.len() > PAGE_LIMIT;
     let mut run = Run {
-        asked: Asked::new(page, &reading.rows),
+        asked: Asked::new(page, &reading.rows, &rules.profile),
         ours: Ours {
+            profile,
             page,
             table: &table,
         },
-        tl: Some(TlPage::read(as_str(page))),
-        refusal: too_long.then_some(1),
+        tl,
+        refusal: rules.refusal,
         departs: false,
         random,
-        found: Findings::default(),
+        found: rules.found(),
     };
-    run.found.pages = 1;
-    run.found.not_utf8 = std::str::from_utf8(page).is_err() as u64;
-    if too_long {
-        run.found.depart(Departure::PageTooLong);
-    }
+    run.found.covered.not_utf8 = std::str::from_utf8(page).is_err() as u64;
     run.nodes(&reading, &words);
     // The other questions are about nodes that all sides have.
     if run.found.differences.is_empty() {
@@ -58,23 +78,90 @@ pub fn table(
     asks: impl FnOnce(&Asked) -> Asks,
     random: &mut Random,
 ) -> Findings {
+    asking(page, &TL_BYTES, table, asks, random)
+}
+
+/// The same under any profile.
+pub fn table_under(
+    page: &[u8],
+    profile: &ProfileBytes,
+    table: &[u32],
+    asks: impl FnOnce(&Asked) -> Asks,
+    random: &mut Random,
+) -> Findings {
+    asking(page, profile, table, asks, random).without_departures()
+}
+
+fn asking(
+    page: &[u8],
+    profile: &ProfileBytes,
+    table: &[u32],
+    asks: impl FnOnce(&Asked) -> Asks,
+    random: &mut Random,
+) -> Findings {
+    let rules = Rules::of(profile, page);
     let sound = model::reading_of(page.len(), table);
-    let refusal = sound.is_none().then_some(3);
+    let refusal = rules.refusal.or(sound.is_none().then_some(3));
     // Of a table that is not sound anything may be asked; the refusal comes first.
-    let reading = sound.unwrap_or_else(|| model::read(page));
+    let reading = sound.unwrap_or_else(|| model::read(page, &rules.profile));
     let mut run = Run {
-        asked: Asked::new(page, &reading.rows),
-        ours: Ours { page, table },
+        asked: Asked::new(page, &reading.rows, &rules.profile),
+        ours: Ours {
+            profile,
+            page,
+            table,
+        },
         tl: None,
         refusal,
         departs: false,
         random,
-        found: Findings::default(),
+        found: rules.found(),
     };
-    run.found.pages = 1;
     let asks = asks(&run.asked);
     run.ask(&asks);
     run.found
+}
+
+/// What holds for every call with a profile on a page.
+struct Rules {
+    /// the profile; if it is refused tl's, since anything may be asked then
+    profile: Profile,
+    is_tl: bool,
+    refusal: Option<u32>,
+}
+
+impl Rules {
+    /// A profile is refused before a page that is too long for it.
+    fn of(bytes: &ProfileBytes, page: &[u8]) -> Rules {
+        let fine = Profile::of(bytes);
+        let refusal = match &fine {
+            None => Some(14),
+            Some(profile) => (page.len() > profile.limit).then_some(1),
+        };
+        Rules {
+            profile: fine.unwrap_or_else(|| tl_profile().clone()),
+            is_tl: *bytes == TL_BYTES,
+            refusal,
+        }
+    }
+
+    /// What is known before anything is asked.
+    fn found(&self) -> Findings {
+        let mut found = Findings {
+            pages: 1,
+            ..Findings::default()
+        };
+        let too_long = self.refusal == Some(1);
+        if too_long {
+            found.depart(Departure::PageTooLong);
+        }
+        if !self.is_tl {
+            found.others.pages = 1;
+            found.others.profiles_refused = (self.refusal == Some(14)) as u64;
+            found.others.too_long = too_long as u64;
+        }
+        found
+    }
 }
 
 /// Reads a selector on all sides.
@@ -113,6 +200,7 @@ fn check<T: PartialEq + Debug, U: PartialEq + Debug>(
     tl: Option<(U, U)>,
 ) {
     found.answers += 1;
+    found.others.refused_as_14 += matches!(paper, Err(Refusal::Number(14))) as u64;
     let same = ours == *paper && tl.as_ref().is_none_or(|(said, expected)| said == expected);
     if !same {
         found.differ(Difference {
@@ -167,7 +255,7 @@ impl Run<'_, '_> {
     }
 
     fn nodes(&mut self, reading: &Reading, words: &[u32]) {
-        let ours = ours::read(self.asked.page, self.ours.table.len());
+        let ours = ours::read(self.ours.profile, self.asked.page, self.ours.table.len());
         let paper = self.expect(words.to_vec());
         let rows = self.tl.as_ref().map(TlPage::rows);
         let expected = reading.rows.iter().map(as_tl_has_it).collect::<Vec<_>>();
@@ -184,7 +272,7 @@ impl Run<'_, '_> {
     /// The nodes have been compared; on no side are they more than the page's length allows.
     fn max_nodes(&mut self, nodes: usize) {
         let most = model::max_nodes(self.asked.page.len());
-        self.found.densest += (nodes == most) as u64;
+        self.found.covered.densest += (nodes == most) as u64;
         if nodes > most {
             self.found.differ(Difference {
                 question: Question::MaxNodes,
@@ -201,7 +289,7 @@ impl Run<'_, '_> {
             return;
         }
         for tag in self.asked.rows.iter().filter(|row| row.is_tag()) {
-            self.found.ended[tag.ended as usize] += 1;
+            self.found.covered.ended[tag.ended as usize] += 1;
         }
     }
 
@@ -217,7 +305,7 @@ impl Run<'_, '_> {
     fn small_table(&mut self, words: usize) {
         if self.random.once_in(4) {
             let less = 1 + self.random.below(2) * self.random.below(words);
-            let answered = ours::read(self.asked.page, words - less);
+            let answered = ours::read(self.ours.profile, self.asked.page, words - less);
             let paper = Err(Refusal::Number(self.refusal.unwrap_or(2)));
             check_ours(&mut self.found, || Question::SmallTable, answered, &paper);
         }
@@ -228,8 +316,8 @@ impl Run<'_, '_> {
         let handles = 0..self.asked.rows.len();
         let repeats = handles.clone().filter(|&h| self.asked.repeats(h)).count();
         let bad_class = handles.filter(|&h| self.asked.has_bad_class(h)).count();
-        self.found.repeating_tags += repeats as u64;
-        self.departs = repeats + bad_class > 0;
+        self.found.covered.repeating_tags += repeats as u64;
+        self.departs = self.tl.is_some() && repeats + bad_class > 0;
     }
 
     fn ask(&mut self, asks: &Asks) {

@@ -1,11 +1,14 @@
 //! The library's calls as include/tl.h declares them, and for each a function on slices. A refusal is an error with its number.
 //!
 //! The header asks only that a pointer is not null, aligned, and good for as many entries as the length says, and that what
-//! is written overlaps nothing else; Rust's slices are always so, empty ones too.
+//! is written overlaps nothing else; Rust's slices are always so, empty ones too. A profile has no length beside it: it is always
+//! of 392 bytes.
+use crate::model::ProfileBytes;
 
 mod raw {
     extern "C" {
         pub fn tl_parse(
+            profile: *const u8,
             page: *const u8,
             page_len: usize,
             table: *mut u32,
@@ -14,6 +17,7 @@ mod raw {
         ) -> u32;
 
         pub fn tl_range(
+            profile: *const u8,
             page: *const u8,
             page_len: usize,
             table: *const u32,
@@ -23,6 +27,7 @@ mod raw {
         ) -> u32;
 
         pub fn tl_attribute(
+            profile: *const u8,
             page: *const u8,
             page_len: usize,
             table: *const u32,
@@ -34,6 +39,7 @@ mod raw {
         ) -> u32;
 
         pub fn tl_inner_text(
+            profile: *const u8,
             page: *const u8,
             page_len: usize,
             table: *const u32,
@@ -45,6 +51,7 @@ mod raw {
         ) -> u32;
 
         pub fn tl_get_element_by_id(
+            profile: *const u8,
             page: *const u8,
             page_len: usize,
             table: *const u32,
@@ -56,6 +63,7 @@ mod raw {
         ) -> u32;
 
         pub fn tl_get_elements_by_class_name(
+            profile: *const u8,
             page: *const u8,
             page_len: usize,
             table: *const u32,
@@ -77,6 +85,7 @@ mod raw {
         ) -> u32;
 
         pub fn tl_query_selector(
+            profile: *const u8,
             page: *const u8,
             page_len: usize,
             table: *const u32,
@@ -89,6 +98,7 @@ mod raw {
         ) -> u32;
 
         pub fn tl_query_selector_below(
+            profile: *const u8,
             page: *const u8,
             page_len: usize,
             table: *const u32,
@@ -102,6 +112,7 @@ mod raw {
         ) -> u32;
 
         pub fn tl_attributes(
+            profile: *const u8,
             page: *const u8,
             page_len: usize,
             table: *const u32,
@@ -116,6 +127,7 @@ mod raw {
         ) -> u32;
 
         pub fn tl_attributes_for_names(
+            profile: *const u8,
             page: *const u8,
             page_len: usize,
             table: *const u32,
@@ -132,6 +144,7 @@ mod raw {
         ) -> u32;
 
         pub fn tl_inner_texts(
+            profile: *const u8,
             page: *const u8,
             page_len: usize,
             table: *const u32,
@@ -163,9 +176,10 @@ fn call<const N: usize>(with: impl FnOnce(&mut [usize; N]) -> u32) -> Said<N> {
     Said { refusal, numbers }
 }
 
-pub fn parse(page: &[u8], table: &mut [u32]) -> Said<1> {
+pub fn parse(profile: &ProfileBytes, page: &[u8], table: &mut [u32]) -> Said<1> {
     call(|[count]| unsafe {
         raw::tl_parse(
+            profile.as_ptr(),
             page.as_ptr(),
             page.len(),
             table.as_mut_ptr(),
@@ -175,9 +189,10 @@ pub fn parse(page: &[u8], table: &mut [u32]) -> Said<1> {
     })
 }
 
-pub fn range(page: &[u8], table: &[u32], handle: usize) -> Said<3> {
+pub fn range(profile: &ProfileBytes, page: &[u8], table: &[u32], handle: usize) -> Said<3> {
     call(|answer| unsafe {
         raw::tl_range(
+            profile.as_ptr(),
             page.as_ptr(),
             page.len(),
             table.as_ptr(),
@@ -188,9 +203,16 @@ pub fn range(page: &[u8], table: &[u32], handle: usize) -> Said<3> {
     })
 }
 
-pub fn attribute(page: &[u8], table: &[u32], handle: usize, name: &[u8]) -> Said<3> {
+pub fn attribute(
+    profile: &ProfileBytes,
+    page: &[u8],
+    table: &[u32],
+    handle: usize,
+    name: &[u8],
+) -> Said<3> {
     call(|answer| unsafe {
         raw::tl_attribute(
+            profile.as_ptr(),
             page.as_ptr(),
             page.len(),
             table.as_ptr(),
@@ -203,9 +225,16 @@ pub fn attribute(page: &[u8], table: &[u32], handle: usize, name: &[u8]) -> Said
     })
 }
 
-pub fn inner_text(page: &[u8], table: &[u32], handle: usize, out: &mut [u8]) -> Said<1> {
+pub fn inner_text(
+    profile: &ProfileBytes,
+    page: &[u8],
+    table: &[u32],
+    handle: usize,
+    out: &mut [u8],
+) -> Said<1> {
     call(|[count]| unsafe {
         raw::tl_inner_text(
+            profile.as_ptr(),
             page.as_ptr(),
             page.len(),
             table.as_ptr(),
@@ -218,9 +247,16 @@ pub fn inner_text(page: &[u8], table: &[u32], handle: usize, out: &mut [u8]) -> 
     })
 }
 
-pub fn get_element_by_id(page: &[u8], table: &[u32], manner: u32, id: &[u8]) -> Said<2> {
+pub fn get_element_by_id(
+    profile: &ProfileBytes,
+    page: &[u8],
+    table: &[u32],
+    manner: u32,
+    id: &[u8],
+) -> Said<2> {
     call(|answer| unsafe {
         raw::tl_get_element_by_id(
+            profile.as_ptr(),
             page.as_ptr(),
             page.len(),
             table.as_ptr(),
@@ -234,6 +270,7 @@ pub fn get_element_by_id(page: &[u8], table: &[u32], manner: u32, id: &[u8]) -> 
 }
 
 pub fn get_elements_by_class_name(
+    profile: &ProfileBytes,
     page: &[u8],
     table: &[u32],
     manner: u32,
@@ -242,6 +279,7 @@ pub fn get_elements_by_class_name(
 ) -> Said<1> {
     call(|[count]| unsafe {
         raw::tl_get_elements_by_class_name(
+            profile.as_ptr(),
             page.as_ptr(),
             page.len(),
             table.as_ptr(),
@@ -268,9 +306,16 @@ pub fn parse_query_selector(selector: &[u8], out: &mut [u32]) -> Said<1> {
     })
 }
 
-pub fn query_selector(page: &[u8], table: &[u32], selector: &[u8], out: &mut [u32]) -> Said<1> {
+pub fn query_selector(
+    profile: &ProfileBytes,
+    page: &[u8],
+    table: &[u32],
+    selector: &[u8],
+    out: &mut [u32],
+) -> Said<1> {
     call(|[count]| unsafe {
         raw::tl_query_selector(
+            profile.as_ptr(),
             page.as_ptr(),
             page.len(),
             table.as_ptr(),
@@ -285,6 +330,7 @@ pub fn query_selector(page: &[u8], table: &[u32], selector: &[u8], out: &mut [u3
 }
 
 pub fn query_selector_below(
+    profile: &ProfileBytes,
     page: &[u8],
     table: &[u32],
     handle: usize,
@@ -293,6 +339,7 @@ pub fn query_selector_below(
 ) -> Said<1> {
     call(|[count]| unsafe {
         raw::tl_query_selector_below(
+            profile.as_ptr(),
             page.as_ptr(),
             page.len(),
             table.as_ptr(),
@@ -308,6 +355,7 @@ pub fn query_selector_below(
 }
 
 pub fn attributes(
+    profile: &ProfileBytes,
     page: &[u8],
     table: &[u32],
     handles: &[u32],
@@ -316,6 +364,7 @@ pub fn attributes(
 ) -> Said<1> {
     call(|[count]| unsafe {
         raw::tl_attributes(
+            profile.as_ptr(),
             page.as_ptr(),
             page.len(),
             table.as_ptr(),
@@ -332,6 +381,7 @@ pub fn attributes(
 }
 
 pub fn attributes_for_names(
+    profile: &ProfileBytes,
     page: &[u8],
     table: &[u32],
     handles: &[u32],
@@ -341,6 +391,7 @@ pub fn attributes_for_names(
 ) -> Said<1> {
     call(|[count]| unsafe {
         raw::tl_attributes_for_names(
+            profile.as_ptr(),
             page.as_ptr(),
             page.len(),
             table.as_ptr(),
@@ -359,6 +410,7 @@ pub fn attributes_for_names(
 }
 
 pub fn inner_texts(
+    profile: &ProfileBytes,
     page: &[u8],
     table: &[u32],
     handles: &[u32],
@@ -367,6 +419,7 @@ pub fn inner_texts(
 ) -> Said<1> {
     call(|[count]| unsafe {
         raw::tl_inner_texts(
+            profile.as_ptr(),
             page.as_ptr(),
             page.len(),
             table.as_ptr(),

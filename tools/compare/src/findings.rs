@@ -56,11 +56,9 @@ pub struct Difference {
     pub tl: Option<(String, String)>,
 }
 
+/// What a run wants to be sure that it met.
 #[derive(Default)]
-pub struct Findings {
-    pub pages: u64,
-    pub selectors: u64,
-    pub answers: u64,
+pub struct Covered {
     /// answers to a list of handles, and the handles of these lists
     pub lists: u64,
     pub listed: u64,
@@ -72,6 +70,48 @@ pub struct Findings {
     pub repeating_tags: u64,
     /// tags of pages that were read, by how they ended
     pub ended: [u64; ENDINGS.len()],
+}
+
+impl Covered {
+    pub fn add(&mut self, more: &Covered) {
+        self.lists += more.lists;
+        self.listed += more.listed;
+        self.not_utf8 += more.not_utf8;
+        self.densest += more.densest;
+        self.repeating_tags += more.repeating_tags;
+        for (sum, more) in self.ended.iter_mut().zip(more.ended) {
+            *sum += more;
+        }
+    }
+}
+
+/// What was asked under other profiles than tl's.
+#[derive(Default)]
+pub struct Others {
+    pub pages: u64,
+    /// pages whose profile is refused, and answers that say so
+    pub profiles_refused: u64,
+    pub refused_as_14: u64,
+    /// pages that are longer than their profile allows
+    pub too_long: u64,
+}
+
+impl Others {
+    pub fn add(&mut self, more: &Others) {
+        self.pages += more.pages;
+        self.profiles_refused += more.profiles_refused;
+        self.refused_as_14 += more.refused_as_14;
+        self.too_long += more.too_long;
+    }
+}
+
+#[derive(Default)]
+pub struct Findings {
+    pub pages: u64,
+    pub selectors: u64,
+    pub answers: u64,
+    pub others: Others,
+    pub covered: Covered,
     pub departures: [u64; DEPARTURES.len()],
     pub differences: Vec<Difference>,
 }
@@ -79,6 +119,14 @@ pub struct Findings {
 impl Findings {
     pub fn depart(&mut self, departure: Departure) {
         self.departures[departure as usize] += 1;
+    }
+
+    /// Under a profile that tl does not have there is nothing to depart from.
+    pub fn without_departures(self) -> Findings {
+        Findings {
+            departures: Default::default(),
+            ..self
+        }
     }
 
     pub fn differ(&mut self, difference: Difference) {

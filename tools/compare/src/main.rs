@@ -1,4 +1,5 @@
-//! Compares the library with tl 0.7.8 and with a model of the paper's rules, on many pages and selectors.
+//! Compares the library with tl 0.7.8 and with a model of the paper's rules, on many pages and selectors; and under other profiles
+//! than tl's, which tl does not have, with the model alone.
 //!
 //! Ends with status 0 if there is no difference, 1 if there is one, 2 if it was started wrongly.
 
@@ -13,6 +14,7 @@ mod model;
 mod ours;
 mod pages;
 mod plan;
+mod profiles;
 mod question;
 mod random;
 mod record;
@@ -32,10 +34,11 @@ use std::thread;
 use std::time::Instant;
 
 const USAGE: &str = "usage: compare [--pages N] [--seed S] [--jobs J] [--record FOLDER]
-  --pages N   about how many pages to compare (2000000)
+  --pages N   about how many pages to compare under tl's profile (2000000); half as many are compared under others
   --seed S    another seed gives other random inputs (1)
   --jobs J    threads (1); the inputs do not depend on it
-  --record F  compare nothing; write tl's answers to some pages into the folder F, for the program replay";
+  --record F  compare nothing; write tl's answers to some pages, and the model's under other profiles, into the folder F, for the
+              program replay";
 
 /// tl descends into nested tags by recursion; the deepest page within the limit needs some megabytes.
 const STACK: usize = 1 << 29;

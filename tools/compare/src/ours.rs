@@ -2,7 +2,7 @@
 //! mark before, and what the interface says of buffers is looked at each time: an accepted call fills the first entries and
 //! leaves the rest as it was, a refusal leaves zeros.
 use crate::ffi::{self, Said};
-use crate::model::{Held, Manner, Names, Piece, Texts, HEADER_WORDS, ROW_WORDS};
+use crate::model::{Held, Manner, Names, Piece, ProfileBytes, Texts, HEADER_WORDS, ROW_WORDS};
 
 /// Why there is no answer.
 #[derive(Clone, Debug, PartialEq, Eq)]
@@ -63,9 +63,9 @@ fn number(manner: Manner, page: &[u8]) -> u32 {
 }
 
 /// Reads a page into a table of so many words; the words that the reading uses.
-pub fn read(page: &[u8], room: usize) -> Answer<Vec<u32>> {
+pub fn read(profile: &ProfileBytes, page: &[u8], room: usize) -> Answer<Vec<u32>> {
     let mut table = vec![MARK; room];
-    let said = ffi::parse(page, &mut table);
+    let said = ffi::parse(profile, page, &mut table);
     if said.refusal == 0 {
         let [count] = said.numbers;
         let rows = count.saturating_mul(ROW_WORDS);
@@ -79,15 +79,16 @@ pub fn read(page: &[u8], room: usize) -> Answer<Vec<u32>> {
     filled(said, table, 1, MARK)
 }
 
-/// A page with a table, to be asked.
+/// A page with a table, to be asked under a profile.
 pub struct Ours<'p> {
+    pub profile: &'p ProfileBytes,
     pub page: &'p [u8],
     pub table: &'p [u32],
 }
 
 impl Ours<'_> {
     pub fn range(&self, handle: usize) -> Answer<Option<(usize, usize)>> {
-        match plain(ffi::range(self.page, self.table, handle))? {
+        match plain(ffi::range(self.profile, self.page, self.table, handle))? {
             [0, 0, 0] => Ok(None),
             [count, first, last] if count > 0 && first + count == last + 1 => {
                 Ok(Some((first, last)))
@@ -98,16 +99,28 @@ impl Ours<'_> {
 
     pub fn text(&self, handle: usize, room: usize) -> Answer<Vec<u8>> {
         let mut out = vec![MARK as u8; room];
-        let said = ffi::inner_text(self.page, self.table, handle, &mut out);
+        let said = ffi::inner_text(self.profile, self.page, self.table, handle, &mut out);
         filled(said, out, 1, MARK as u8)
     }
 
     pub fn attribute(&self, handle: usize, name: &[u8]) -> Answer<Held> {
-        held(plain(ffi::attribute(self.page, self.table, handle, name))?)
+        held(plain(ffi::attribute(
+            self.profile,
+            self.page,
+            self.table,
+            handle,
+            name,
+        ))?)
     }
 
     pub fn by_id(&self, manner: Manner, id: &[u8]) -> Answer<Option<usize>> {
-        let said = ffi::get_element_by_id(self.page, self.table, number(manner, self.page), id);
+        let said = ffi::get_element_by_id(
+            self.profile,
+            self.page,
+            self.table,
+            number(manner, self.page),
+            id,
+        );
         match plain(said)? {
             [0, 0] => Ok(None),
             [1, handle] => Ok(Some(handle)),
@@ -118,25 +131,39 @@ impl Ours<'_> {
     pub fn by_class(&self, manner: Manner, class: &[u8], room: usize) -> Answer<Vec<usize>> {
         let mut out = vec![MARK; room];
         let manner = number(manner, self.page);
-        let said = ffi::get_elements_by_class_name(self.page, self.table, manner, class, &mut out);
+        let said = ffi::get_elements_by_class_name(
+            self.profile,
+            self.page,
+            self.table,
+            manner,
+            class,
+            &mut out,
+        );
         filled(said, out, 1, MARK).map(handles)
     }
 
     pub fn query(&self, selector: &[u8], room: usize) -> Answer<Vec<usize>> {
         let mut out = vec![MARK; room];
-        let said = ffi::query_selector(self.page, self.table, selector, &mut out);
+        let said = ffi::query_selector(self.profile, self.page, self.table, selector, &mut out);
         filled(said, out, 1, MARK).map(handles)
     }
 
     pub fn query_below(&self, handle: usize, selector: &[u8], room: usize) -> Answer<Vec<usize>> {
         let mut out = vec![MARK; room];
-        let said = ffi::query_selector_below(self.page, self.table, handle, selector, &mut out);
+        let said = ffi::query_selector_below(
+            self.profile,
+            self.page,
+            self.table,
+            handle,
+            selector,
+            &mut out,
+        );
         filled(said, out, 1, MARK).map(handles)
     }
 
     pub fn attributes(&self, list: &[u32], name: &[u8], room: usize) -> Answer<Vec<Held>> {
         let mut out = vec![MARK; room];
-        let said = ffi::attributes(self.page, self.table, list, name, &mut out);
+        let said = ffi::attributes(self.profile, self.page, self.table, list, name, &mut out);
         listed(filled(of_all(said, list)?, out, 3, MARK)?)
     }
 
@@ -148,7 +175,15 @@ impl Ours<'_> {
     ) -> Answer<Vec<Held>> {
         let mut out = vec![MARK; room];
         let Names { text, ends } = names;
-        let said = ffi::attributes_for_names(self.page, self.table, list, text, ends, &mut out);
+        let said = ffi::attributes_for_names(
+            self.profile,
+            self.page,
+            self.table,
+            list,
+            text,
+            ends,
+            &mut out,
+        );
         listed(filled(of_all(said, list)?, out, 3 * ends.len(), MARK)?)
     }
 
@@ -156,7 +191,14 @@ impl Ours<'_> {
     pub fn texts(&self, list: &[u32], places: usize, room: usize) -> Answer<Texts> {
         let mut ends = vec![MARK as usize; places];
         let mut bytes = vec![MARK as u8; room];
-        let said = ffi::inner_texts(self.page, self.table, list, &mut ends, &mut bytes);
+        let said = ffi::inner_texts(
+            self.profile,
+            self.page,
+            self.table,
+            list,
+            &mut ends,
+            &mut bytes,
+        );
         let said = of_all(said, list)?;
         if said.refusal != 0 && bytes.iter().any(|&byte| byte != 0) {
             return Err(Refusal::Broken("a refusal leaves bytes of texts"));

@@ -1,5 +1,5 @@
 //! Pages of many kinds, and damage done to them and to tables.
-use crate::model::{self, words_for, HEADER_WORDS, PAGE_LIMIT, ROW_WORDS};
+use crate::model::{self, tl_profile, words_for, HEADER_WORDS, PAGE_LIMIT, ROW_WORDS};
 use crate::random::Random;
 
 /// The bytes of which every short page is made.
@@ -503,7 +503,7 @@ pub fn with_ends(random: &mut Random) -> (Vec<u8>, Vec<u32>) {
         push(&mut page, random.pick(&TAGS));
     }
     page.truncate(length);
-    let mut table = model::words_of(length, &model::read(&page));
+    let mut table = model::words_of(length, &model::read(&page, tl_profile()));
     for row in rows_of(&mut table) {
         let opened = row[5] as usize;
         if row[0] == 1 {

@@ -3,7 +3,8 @@
 use crate::asks::Asks;
 use crate::compare;
 use crate::findings::Findings;
-use crate::model::{self, PAGE_LIMIT, SELECTOR_LIMIT};
+use crate::model::{self, tl_profile, ProfileBytes, PAGE_LIMIT, SELECTOR_LIMIT};
+use crate::profiles::{self, Table, Under};
 use crate::question::Question;
 use crate::random::Random;
 use crate::{execution, pages, selectors};
@@ -29,9 +30,20 @@ pub enum Kind {
     ShortSelectors,
     Selectors,
     Ends,
+    ProfileBytes,
+    Profiles,
+    OtherProfiles,
+    RefusedProfiles,
 }
 
-pub const KINDS: [(Kind, &str); 18] = [
+impl Kind {
+    /// Whether the inputs come with a profile of their own; the others go by tl's.
+    pub fn has_profile(self) -> bool {
+        self as usize >= Kind::ProfileBytes as usize
+    }
+}
+
+pub const KINDS: [(Kind, &str); 22] = [
     (Kind::Checked, "the paper's pages"),
     (Kind::CheckedSelectors, "the paper's selectors"),
     (Kind::ShortPages, "every short page"),
@@ -50,6 +62,10 @@ pub const KINDS: [(Kind, &str); 18] = [
     (Kind::ShortSelectors, "every short selector"),
     (Kind::Selectors, "random selectors"),
     (Kind::Ends, "tables of tags that end anywhere"),
+    (Kind::ProfileBytes, "every byte of a profile"),
+    (Kind::Profiles, "random profiles"),
+    (Kind::OtherProfiles, "tables of another profile"),
+    (Kind::RefusedProfiles, "profiles refused as 14"),
 ];
 
 /// Inputs of one kind, by their numbers.
@@ -65,9 +81,11 @@ pub enum Input {
     /// a page with a table
     Table(Vec<u8>, Vec<u32>),
     Selector(Vec<u8>),
+    /// a page with a profile of its own
+    Under(Box<Under>),
 }
 
-/// The inputs of a run of about so many pages.
+/// The inputs of a run of about so many pages under tl's profile, and of half as many under others.
 pub fn batches(pages: u64) -> Vec<Batch> {
     let mut all = Vec::new();
     for (kind, _) in KINDS {
@@ -112,6 +130,11 @@ fn size(kind: Kind, pages: u64) -> (u64, u64) {
             20_000,
         ),
         Kind::Selectors => (pages / 5, 10_000),
+        // together half as many as are compared under tl's profile
+        Kind::ProfileBytes => (profiles::CHANGES.min(pages * 6 / 100), 4_000),
+        Kind::Profiles => (pages * 27 / 100, 2_000),
+        Kind::OtherProfiles => (pages * 10 / 100, 2_000),
+        Kind::RefusedProfiles => (pages * 7 / 100, 2_000),
     }
 }
 
@@ -145,43 +168,59 @@ impl Batch {
 
 fn input(kind: Kind, number: u64, random: &mut Random) -> Input {
     match kind {
-        Kind::Checked => Input::Page(checked(&pages::CHECKED, number, PAGE_LIMIT), &[]),
+        Kind::Characters => Input::Page(pages::of_character(number), &pages::AROUND_CHARACTER),
+        Kind::Tables | Kind::ManyRows | Kind::Ends => {
+            let (page, table) = with_table(kind, number, random);
+            Input::Table(page, table)
+        }
         Kind::CheckedSelectors => {
             Input::Selector(checked(&selectors::CHECKED, number, SELECTOR_LIMIT))
         }
-        Kind::ShortPages => Input::Page(pages::row_of(&pages::ALPHABET, number), &[]),
-        Kind::Parts => Input::Page(pages::row_of(&pages::PARTS, number), &[]),
-        Kind::Characters => Input::Page(pages::of_character(number), &pages::AROUND_CHARACTER),
-        Kind::Bytes => Input::Page(pages::of_bytes(random), &[]),
-        Kind::Markup => Input::Page(pages::of_markup(random), &[]),
-        Kind::Executions | Kind::Cuts => Input::Page(execution::page(random), &[]),
+        Kind::ShortSelectors => {
+            let letters = selectors::ALPHABET.each_ref().map(std::slice::from_ref);
+            Input::Selector(pages::row_of(&letters, number))
+        }
+        Kind::Selectors => Input::Selector(some_selector(random)),
+        _ if kind.has_profile() => Input::under(profiles::input(kind, number, random)),
+        _ => Input::Page(page(kind, number, random), &[]),
+    }
+}
+
+fn page(kind: Kind, number: u64, random: &mut Random) -> Vec<u8> {
+    match kind {
+        Kind::Checked => checked(&pages::CHECKED, number, PAGE_LIMIT),
+        Kind::ShortPages => pages::row_of(&pages::ALPHABET, number),
+        Kind::Parts => pages::row_of(&pages::PARTS, number),
+        Kind::Bytes => pages::of_bytes(random),
+        Kind::Markup => pages::of_markup(random),
         Kind::Damaged => {
             let mut page = some_page(random);
             pages::damage(&mut page, random);
-            Input::Page(page, &[])
+            page
         }
         Kind::NotUtf8 => {
             let mut page = some_page(random);
             pages::spoil(&mut page, random);
-            Input::Page(page, &[])
+            page
         }
         Kind::Lengths => {
             let over = random.below(5) + number as usize % 2 * random.below(3000);
-            Input::Page(pages::of_length(PAGE_LIMIT - 2 + over, random), &[])
+            pages::of_length(PAGE_LIMIT - 2 + over, random)
         }
         Kind::Nested => {
             let depth = match random.below(40) {
                 0 => 3_000,
                 _ => 1000 / (1 + random.below(100)),
             };
-            Input::Page(pages::nested(depth, random), &[])
+            pages::nested(depth, random)
         }
-        Kind::Tables => {
-            let page = pages::of_markup(random);
-            let mut table = model::words_of(page.len(), &model::read(&page));
-            pages::change_table(&mut table, page.len(), random);
-            Input::Table(page, table)
-        }
+        _ => execution::page(random),
+    }
+}
+
+/// A page with a table that no reading need have made.
+fn with_table(kind: Kind, number: u64, random: &mut Random) -> (Vec<u8>, Vec<u32>) {
+    match kind {
         Kind::ManyRows => {
             // around the most rows that a page has, those of a short page to the calls on a list, and more
             let rows = match number % 4 {
@@ -189,18 +228,15 @@ fn input(kind: Kind, number: u64, random: &mut Random) -> Input {
                 1 | 2 => 4_096 - 2 + random.below(5),
                 _ => 40_000 + random.below(20_000),
             };
-            let (page, table) = pages::with_rows(rows, random);
-            Input::Table(page, table)
+            pages::with_rows(rows, random)
         }
-        Kind::Ends => {
-            let (page, table) = pages::with_ends(random);
-            Input::Table(page, table)
+        Kind::Ends => pages::with_ends(random),
+        _ => {
+            let page = pages::of_markup(random);
+            let mut table = model::words_of(page.len(), &model::read(&page, tl_profile()));
+            pages::change_table(&mut table, page.len(), random);
+            (page, table)
         }
-        Kind::ShortSelectors => {
-            let letters = selectors::ALPHABET.each_ref().map(std::slice::from_ref);
-            Input::Selector(pages::row_of(&letters, number))
-        }
-        Kind::Selectors => Input::Selector(some_selector(random)),
     }
 }
 
@@ -239,6 +275,10 @@ fn some_selector(random: &mut Random) -> Vec<u8> {
 }
 
 impl Input {
+    fn under(under: Under) -> Input {
+        Input::Under(Box::new(under))
+    }
+
     pub fn compare(&self, random: &mut Random) -> Findings {
         // What is asked, and how, are two sources, so that the first does not hang on the second.
         let mut choice = Random::new(random.next());
@@ -265,6 +305,43 @@ impl Input {
             Input::Page(..) => compare::page(bytes, asks, random),
             Input::Table(_, table) => compare::table(bytes, table, asks, random),
             Input::Selector(_) => compare::selector(bytes),
+            Input::Under(under) => {
+                let (lent, place) = among_others(&under.profile, random);
+                let profile = lent[place]
+                    .try_into()
+                    .expect("as many bytes as a profile has");
+                under.compare(bytes, profile, asks, random)
+            }
+        }
+    }
+
+    /// The profile, if the input has one of its own.
+    pub fn profile(&self) -> Option<&ProfileBytes> {
+        match self {
+            Input::Under(under) => Some(&under.profile),
+            _ => None,
+        }
+    }
+
+    /// The table in words, or where it comes from, if it is not that of the page's own reading.
+    pub fn table(&self) -> Option<String> {
+        let under = match self {
+            Input::Table(_, table) => return Some(format!("{table:?}")),
+            Input::Under(under) => under,
+            _ => return None,
+        };
+        match &under.table {
+            Table::Read => None,
+            Table::ReadUnder(other) => Some(format!("read under {}", profiles::shown(other))),
+            Table::Words(table) => Some(format!("{table:?}")),
+        }
+    }
+
+    /// The same without a part of its profile, by its number; nothing if it does not have it.
+    pub fn without(&self, part: usize) -> Option<Input> {
+        match self {
+            Input::Under(under) => under.without(part).map(Input::under),
+            _ => None,
         }
     }
 
@@ -273,6 +350,7 @@ impl Input {
         match self {
             Input::Page(page, _) | Input::Table(page, _) => ("page", page),
             Input::Selector(selector) => ("selector", selector),
+            Input::Under(under) => ("page", &under.page),
         }
     }
 
@@ -282,6 +360,7 @@ impl Input {
             Input::Page(_, also) => Some(Input::Page(bytes.to_vec(), also)),
             Input::Table(..) => None,
             Input::Selector(_) => Some(Input::Selector(bytes.to_vec())),
+            Input::Under(under) => under.with_page(bytes).map(Input::under),
         }
     }
 }

@@ -3,14 +3,16 @@
 //!
 //! Each answer to an accepted question about a page is tl's, of a list of handles tl's for one tag after the other. tl keeps no
 //! table, so the words of one are the model's, once tl's nodes and the model's are the same. Refusals, what a buffer holds after
-//! a call, and what is answered about a table that no reading made follow the paper.
+//! a call, and what is answered about a table that no reading made follow the paper. `replay` starts with tl's profile; the last
+//! questions are asked under others, and follow the paper too.
 mod lists;
+mod profiles;
 
 use crate::asks::Asks;
 use crate::execution;
 use crate::model::{
-    self, words_for, Asked, Held, Kind, Manner, Piece, HEADER_WORDS, PAGE_LIMIT, ROW_WORDS,
-    SELECTOR_LIMIT,
+    self, tl_profile, words_for, Asked, Held, Kind, Manner, Piece, HEADER_WORDS, PAGE_LIMIT,
+    ROW_WORDS, SELECTOR_LIMIT,
 };
 use crate::pages;
 use crate::random::Random;
@@ -94,6 +96,11 @@ impl Recording {
         self.record([12, i, value, 0], b"", "word", &[i, value]);
     }
 
+    /// Byte `i` of the profile becomes `value`.
+    fn byte(&mut self, i: usize, value: usize) {
+        self.record([14, i, value, 0], b"", "byte", &[i, value]);
+    }
+
     fn selector(&mut self, selector: &[u8]) {
         let answer = match tl_side::read_selector(selector) {
             _ if selector.len() > SELECTOR_LIMIT => Err(5),
@@ -138,7 +145,7 @@ fn words_of(piece: &Piece) -> [usize; 6] {
 
 /// What reading a page into so many words answers, and the words.
 fn read(page: &[u8], words: usize) -> Vec<usize> {
-    let reading = model::read(page);
+    let reading = model::read(page, tl_profile());
     let rows = TlPage::read(tl_side::as_str(page)).rows();
     assert_eq!(rows.len(), reading.rows.len());
     for (tl, row) in rows.iter().zip(&reading.rows) {
@@ -162,8 +169,8 @@ fn manners() -> [(usize, Manner); 2] {
 
 /// Whether tl's answers on this page are the paper's, and `replay` has room for it.
 fn is_plain(page: &[u8]) -> bool {
-    let reading = model::read(page);
-    let asked = Asked::new(page, &reading.rows);
+    let reading = model::read(page, tl_profile());
+    let asked = Asked::new(page, &reading.rows, tl_profile());
     let mut tags = (0..reading.rows.len()).filter(|&handle| reading.rows[handle].is_tag());
     std::str::from_utf8(page).is_ok()
         && reading.rows.len() <= ROWS
@@ -172,8 +179,8 @@ fn is_plain(page: &[u8]) -> bool {
 
 /// Reads a page and asks tl what `asks` names.
 fn questions(to: &mut Recording, page: &[u8], random: &mut Random) {
-    let reading = model::read(page);
-    let asked = Asked::new(page, &reading.rows);
+    let reading = model::read(page, tl_profile());
+    let asked = Asked::new(page, &reading.rows, tl_profile());
     let asks = Asks::of_page(&asked, random);
     let tl = TlPage::read(tl_side::as_str(page));
     to.page(page, 1, words_for(reading.rows.len()) + random.below(3));
@@ -241,6 +248,12 @@ fn found(selector: &[u8], query: impl FnOnce() -> Option<Vec<usize>>) -> Answer 
 
 /// Every question to a page and table that are refused with this number.
 fn all_refused(to: &mut Recording, number: usize) {
+    one_refused(to, number);
+    lists::refused(to, number);
+}
+
+/// Those that are not about a list.
+fn one_refused(to: &mut Recording, number: usize) {
     to.record([2, 0, 0, 0], b"", "range", &[number, 0, 0, 0]);
     to.record([3, 0, 0, 0], b"k", "attribute", &[number, 0, 0, 0]);
     to.list(([4, 0, 3, 0], b"", "text"), 3, 1, &Err(number));
@@ -248,7 +261,6 @@ fn all_refused(to: &mut Recording, number: usize) {
     to.list(([6, 1, 2, 0], b"k", "class"), 2, 1, &Err(number));
     to.list(([8, 0, 2, 0], b"a,", "query"), 2, 1, &Err(number));
     to.list(([9, 0, 2, 0], b"a,", "below"), 2, 1, &Err(number));
-    lists::refused(to, number);
 }
 
 /// Zero length, the longest page and selector and one byte more, tables of few words.
@@ -289,7 +301,7 @@ fn limits(to: &mut Recording) {
 /// A sound table with one word changed at a time, to what makes it unsound, and changed back.
 fn damaged_tables(to: &mut Recording) {
     let page = b"<table id=a><tr class=b><td>x</td><br></tr><!--c--></table>y";
-    let rows = model::read(page).rows.len();
+    let rows = model::read(page, tl_profile()).rows.len();
     let table = to.page(page, 1, words_for(rows));
     for i in 0..table.len() {
         for value in [0, table[i].wrapping_add(1), u32::MAX] {
@@ -320,7 +332,7 @@ fn ends_in_other_orders(to: &mut Recording) {
     let open = b"<p id=i class='c d c'>";
     let text = [&open[..], &[b'x'; 3000], b"</p>"].concat();
     let page = text.repeat(TIMES);
-    let rows = model::read(&page).rows.len();
+    let rows = model::read(&page, tl_profile()).rows.len();
     let mut table = to.page(&text, TIMES, words_for(rows));
     // the end of a tag that opens at a place, one of those in the page
     let orders: [fn(usize, usize, usize) -> usize; 3] = [
@@ -337,7 +349,7 @@ fn ends_in_other_orders(to: &mut Recording) {
             to.word(word, end);
         }
         let reading = model::reading_of(page.len(), &table).expect("a sound table");
-        let asked = Asked::new(&page, &reading.rows);
+        let asked = Asked::new(&page, &reading.rows, tl_profile());
         for class in [&b"c"[..], b"d"] {
             let found = Ok(asked.by_class(Manner::Closed, class, model::PAPER));
             to.rooms(|room| [6, 1, room, 0], class, "class", 1, &found);
@@ -351,7 +363,7 @@ fn ends_in_other_orders(to: &mut Recording) {
 /// sound or not as the model says. Then the width of a row, to a word less and a word more.
 fn ended_in_other_ways(to: &mut Recording) {
     let page = b"<p>x<br><b>y</b><!--c--><i><q></q";
-    let rows = model::read(page).rows.len();
+    let rows = model::read(page, tl_profile()).rows.len();
     let mut table = to.page(page, 1, words_for(rows));
     let words = (0..rows).map(|handle| (words_for(handle) + 8, 0..=4));
     let width = ROW_WORDS as u32;
@@ -415,6 +427,7 @@ pub fn record(folder: &Path, seed: u64) -> io::Result<()> {
     random_pages(&mut to, seed);
     ends_in_other_orders(&mut to);
     ended_in_other_ways(&mut to);
+    profiles::questions_under_others(&mut to);
     writeln!(to.printed, "records {}", to.records).expect("a string takes it");
     fs::write(folder.join("stdin"), &to.asked)?;
     fs::write(folder.join("stdout"), &to.printed)

@@ -1,6 +1,8 @@
 //! Counts by kind of input, and the first differences in their smallest form.
-use crate::findings::{Difference, Findings, DEPARTURES, ENDINGS};
+use crate::findings::{Covered, Difference, Findings, Others, DEPARTURES, ENDINGS};
+use crate::model::TL_BYTES;
 use crate::plan::{Input, Kind, KINDS};
+use crate::profiles;
 use crate::shrink::shrink;
 use std::collections::HashSet;
 
@@ -16,15 +18,23 @@ struct Counts {
     answers: u64,
 }
 
+impl Counts {
+    fn add(&mut self, more: &Counts) {
+        self.pages += more.pages;
+        self.selectors += more.selectors;
+        self.answers += more.answers;
+    }
+}
+
+/// Whether a kind's inputs have profiles of their own, and what they are compared under.
+const UNDER: [(bool, &str); 2] = [(false, "tl's profile"), (true, "random profiles")];
+
 #[derive(Default)]
 pub struct Report {
     counts: [Counts; KINDS.len()],
-    lists: u64,
-    listed: u64,
-    not_utf8: u64,
-    densest: u64,
-    repeating_tags: u64,
-    ended: [u64; ENDINGS.len()],
+    /// under tl's profile, and under random ones
+    covered: [Covered; UNDER.len()],
+    others: Others,
     departures: [u64; DEPARTURES.len()],
     differences: u64,
     shown: Vec<(Kind, Input, Difference)>,
@@ -33,16 +43,13 @@ pub struct Report {
 impl Report {
     /// Adds what was found on one input.
     pub fn add(&mut self, kind: Kind, input: Input, found: Findings) {
-        let counts = &mut self.counts[kind as usize];
-        counts.pages += found.pages;
-        counts.selectors += found.selectors;
-        counts.answers += found.answers;
-        self.lists += found.lists;
-        self.listed += found.listed;
-        self.not_utf8 += found.not_utf8;
-        self.densest += found.densest;
-        self.repeating_tags += found.repeating_tags;
-        add(&mut self.ended, found.ended);
+        self.counts[kind as usize].add(&Counts {
+            pages: found.pages,
+            selectors: found.selectors,
+            answers: found.answers,
+        });
+        self.covered[kind.has_profile() as usize].add(&found.covered);
+        self.others.add(&found.others);
         add(&mut self.departures, found.departures);
         self.differences += found.differences.len() as u64;
         // The first of an input; the others mostly follow from it.
@@ -64,16 +71,12 @@ impl Report {
     /// Adds another report's.
     pub fn join(&mut self, other: Report) {
         for (sum, more) in self.counts.iter_mut().zip(other.counts) {
-            sum.pages += more.pages;
-            sum.selectors += more.selectors;
-            sum.answers += more.answers;
+            sum.add(&more);
         }
-        self.lists += other.lists;
-        self.listed += other.listed;
-        self.not_utf8 += other.not_utf8;
-        self.densest += other.densest;
-        self.repeating_tags += other.repeating_tags;
-        add(&mut self.ended, other.ended);
+        for (sum, more) in self.covered.iter_mut().zip(&other.covered) {
+            sum.add(more);
+        }
+        self.others.add(&other.others);
         add(&mut self.departures, other.departures);
         self.differences += other.differences;
         for shown in other.shown {
@@ -107,11 +110,10 @@ impl Report {
             "", "pages", "selectors", "answers"
         );
         let mut all = Counts::default();
-        for (counts, (_, name)) in self.counts.iter().zip(KINDS) {
-            line(name, counts);
-            all.pages += counts.pages;
-            all.selectors += counts.selectors;
-            all.answers += counts.answers;
+        for (own, name) in UNDER {
+            let under = self.print_counts(own);
+            line(&format!("all under {name}"), &under);
+            all.add(&under);
         }
         line("all", &all);
         println!();
@@ -120,7 +122,11 @@ impl Report {
             println!("{count:>12} {name}");
         }
         println!();
-        self.print_covered();
+        for (covered, (_, name)) in self.covered.iter().zip(UNDER) {
+            println!("under {name}:");
+            covered.print();
+        }
+        self.others.print();
         println!();
         for (kind, input, difference) in &self.shown {
             show(*kind, input, difference);
@@ -128,8 +134,41 @@ impl Report {
         println!("{} differences", self.differences);
     }
 
-    /// What a run wants to be sure that it met.
-    fn print_covered(&self) {
+    /// The counts of the kinds with profiles of their own, or of those without. Answers their sum.
+    fn print_counts(&self, own: bool) -> Counts {
+        let mut all = Counts::default();
+        let of_kinds = self.counts.iter().zip(KINDS);
+        for (counts, (_, name)) in of_kinds.filter(|(_, (kind, _))| kind.has_profile() == own) {
+            line(name, counts);
+            all.add(counts);
+        }
+        all
+    }
+}
+
+impl Others {
+    fn print(&self) {
+        println!(
+            "{:>12} pages were compared under other profiles than tl's",
+            self.pages
+        );
+        println!(
+            "{:>12} of their profiles are refused as 14",
+            self.profiles_refused
+        );
+        println!(
+            "{:>12} of the answers are refused as 14",
+            self.refused_as_14
+        );
+        println!(
+            "{:>12} of the pages are longer than their profiles allow",
+            self.too_long
+        );
+    }
+}
+
+impl Covered {
+    fn print(&self) {
         println!(
             "{:>12} of the answers are to a list of handles, {} handles together",
             self.lists, self.listed
@@ -172,8 +211,12 @@ fn show(kind: Kind, input: &Input, difference: &Difference) {
         bytes.len(),
         short(&bytes.escape_ascii().to_string())
     );
-    if let Input::Table(_, table) = input {
-        println!("  table     {}", short(&format!("{table:?}")));
+    if !matches!(input, Input::Selector(_)) {
+        let profile = input.profile().unwrap_or(&TL_BYTES);
+        println!("  profile   {}", profiles::shown(profile));
+    }
+    if let Some(table) = input.table() {
+        println!("  table     {}", short(&table));
     }
     println!("  library   {}", short(&difference.ours));
     println!("  paper     {}", short(&difference.paper));

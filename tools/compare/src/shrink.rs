@@ -1,7 +1,9 @@
-//! Makes an input on which an answer differs as small as it can be by leaving out bytes, and then what was asked.
+//! Makes an input on which an answer differs as small as it can be by leaving out parts of its profile, then bytes, and then what
+//! was asked.
 use crate::findings::Difference;
 use crate::guard::guarded;
 use crate::plan::Input;
+use crate::profiles::PARTS;
 use crate::question::Question;
 use crate::random::Random;
 
@@ -10,6 +12,14 @@ const TRIED: usize = 10_000_000;
 
 /// The smallest input found, with its difference.
 pub fn shrink(mut input: Input, mut difference: Difference) -> (Input, Difference) {
+    for part in 0..PARTS {
+        let Some(next) = input.without(part) else {
+            continue;
+        };
+        if let Some(still) = differs(&next, &difference.question) {
+            (input, difference) = (next, still);
+        }
+    }
     let bytes = input.bytes().1.to_vec();
     fewer(bytes, |bytes| {
         let next = input.with_bytes(bytes)?;

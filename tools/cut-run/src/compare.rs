@@ -4,7 +4,7 @@
 use std::fmt;
 
 use tl_rattle::calls::HeldAt;
-use tl_rattle::{max_nodes, words_for, Refusal, HEADER_WORDS, ROW_WORDS};
+use tl_rattle::{max_nodes, words_for, Profile, Refusal, HEADER_WORDS, ROW_WORDS};
 
 use crate::ended::EndedCounts;
 use crate::questions::Questions;
@@ -15,7 +15,7 @@ use crate::rows::Rows;
 /// The parts of the statement.
 #[derive(Clone, Copy, Debug, PartialEq, Eq)]
 pub enum Clause {
-    /// both readings are accepted
+    /// both readings are accepted, or refused as 1 where the bytes are more than the profile's limit
     Reading,
     /// the beginning's tags are the whole page's that are opened before the cut
     Tags,
@@ -65,6 +65,8 @@ pub struct Counts {
     pub pages: usize,
     pub bytes: usize,
     pub cuts: usize,
+    /// of pages over their profile's limit, which are refused: only the beginning's reading was tried
+    pub over_limit: usize,
     /// tags of beginnings, each with its start, name and parent
     pub tags: usize,
     pub absent: usize,
@@ -119,8 +121,9 @@ impl Text {
     }
 }
 
-/// A whole page, with its answers so far.
+/// A whole page, with its answers so far. All that is asked of it and of its beginnings goes by one profile.
 pub struct Whole<'p, R> {
+    profile: &'p Profile,
     page: &'p [u8],
     table: Vec<u32>,
     questions: &'p Questions,
@@ -140,6 +143,7 @@ pub struct Whole<'p, R> {
 impl<'p, R: Reader> Whole<'p, R> {
     /// Reads the page, and asks it each selector.
     pub fn new(
+        profile: &'p Profile,
         page: &'p [u8],
         questions: &'p Questions,
         reader: &'p R,
@@ -147,6 +151,7 @@ impl<'p, R: Reader> Whole<'p, R> {
     ) -> Self {
         let room = max_nodes(page.len());
         let mut whole = Whole {
+            profile,
             page,
             table: vec![0; words_for(room)],
             questions,
@@ -162,40 +167,63 @@ impl<'p, R: Reader> Whole<'p, R> {
         };
         counts.pages += 1;
         counts.bytes += page.len();
-        match whole.reader.parse(page, &mut whole.table) {
-            Ok(count) => whole.table.truncate(words_for(count)),
-            Err(refusal) => {
-                whole.differ(counts, Clause::Reading, page.len(), None, || {
-                    format!("the whole page is refused: {refusal}")
-                });
-                // as a page without nodes
+        whole.read(counts);
+        whole.query();
+        let table = whole.table.clone();
+        whole.descendants(counts, Clause::DescendantsWhole, page.len(), &table);
+        whole
+    }
+
+    /// Reads the page. One that is refused is as one without nodes.
+    fn read(&mut self, counts: &mut Counts) {
+        let (page, reader) = (self.page, self.reader);
+        let said = reader.parse(self.profile, page, &mut self.table);
+        self.reading(counts, "whole page", page.len(), said);
+        match said {
+            Ok(count) => self.table.truncate(words_for(count)),
+            Err(_) => {
                 let [first, width] = [HEADER_WORDS as u32, ROW_WORDS as u32];
-                whole.table = vec![0, 0, page.len() as u32, first, width, 0, 0, 0];
+                self.table = vec![0, 0, page.len() as u32, first, width, 0, 0, 0];
             }
         }
-        let count = Rows(&whole.table).count() as usize;
-        whole.held = vec![None; count * questions.names.len()];
-        whole.below = vec![None; count * questions.selectors.len()];
-        whole.texts.resize_with(count, || None);
-        let asked = Asked {
-            page,
-            table: &whole.table,
-        };
-        for selector in &questions.selectors {
-            let mut out = vec![0; count];
-            let many = whole.reader.query(asked, selector, &mut out);
-            whole.found.push(many.map(|many| {
+        let count = Rows(&self.table).count() as usize;
+        self.held = vec![None; count * self.questions.names.len()];
+        self.below = vec![None; count * self.questions.selectors.len()];
+        self.texts.resize_with(count, || None);
+    }
+
+    /// Asks each selector over the page.
+    fn query(&mut self) {
+        for selector in &self.questions.selectors {
+            let mut out = vec![0; Rows(&self.table).count() as usize];
+            let many = self.reader.query(self.asked(), selector, &mut out);
+            self.found.push(many.map(|many| {
                 out.truncate(many);
                 out
             }));
         }
-        whole.descendants(
-            counts,
-            Clause::DescendantsWhole,
-            page.len(),
-            &whole.table.clone(),
-        );
-        whole
+    }
+
+    /// Whether so many bytes are more than the profile's limit.
+    fn is_over(&self, n: usize) -> bool {
+        n > self.profile.limit()
+    }
+
+    /// The whole page, or its first `n` bytes, must be accepted or refused as the profile's limit says.
+    fn reading(
+        &mut self,
+        counts: &mut Counts,
+        which: &str,
+        n: usize,
+        said: Result<usize, Refusal>,
+    ) {
+        let due = self.is_over(n).then_some(Refusal::PageTooLong);
+        let said = said.err();
+        if said != due {
+            self.differ(counts, Clause::Reading, n, None, || {
+                format!("refusal of the {which}: {said:?}, due is {due:?}")
+            });
+        }
     }
 
     fn differ(
@@ -219,6 +247,7 @@ impl<'p, R: Reader> Whole<'p, R> {
 
     fn asked(&self) -> Asked<'_> {
         Asked {
+            profile: self.profile,
             page: self.page,
             table: &self.table,
         }
@@ -276,31 +305,41 @@ impl<'p, R: Reader> Whole<'p, R> {
         counts: &mut Counts,
     ) {
         counts.cuts += 1;
-        let page = self.page;
-        let beginning = &page[..n];
+        let page = &self.page[..n];
         let mut lent = std::mem::take(&mut self.lent);
-        match reader.parse(beginning, &mut lent) {
-            Ok(count) => {
-                let table = &lent[..words_for(count)];
-                let asked = Asked {
-                    page: beginning,
-                    table,
-                };
-                let tags = self.tags(counts, asked);
-                self.ended(counts, asked, &tags);
-                self.descendants(counts, Clause::Descendants, n, table);
-                let some = some_of(&tags, self.questions.tags, random);
-                self.attributes(counts, asked, reader, &some);
-                self.texts(counts, asked, reader, &some);
-                self.queries(counts, asked, reader);
-                let some = some_of(&tags, self.questions.below, random);
-                self.queries_below(counts, asked, reader, &some);
-            }
-            Err(refusal) => self.differ(counts, Clause::Reading, n, None, || {
-                format!("the beginning is refused: {refusal}")
-            }),
+        let said = reader.parse(self.profile, page, &mut lent);
+        self.reading(counts, "beginning", n, said);
+        // the statement is on two readings that are accepted
+        if self.is_over(self.page.len()) {
+            counts.over_limit += 1;
+        } else if let Ok(count) = said {
+            let asked = Asked {
+                profile: self.profile,
+                page,
+                table: &lent[..words_for(count)],
+            };
+            self.beginning(asked, reader, random, counts);
         }
         self.lent = lent;
+    }
+
+    /// Asks a beginning that was read, and compares.
+    fn beginning<B: Reader>(
+        &mut self,
+        asked: Asked<'_>,
+        reader: &B,
+        random: &mut Random,
+        counts: &mut Counts,
+    ) {
+        let tags = self.tags(counts, asked);
+        self.ended(counts, asked, &tags);
+        self.descendants(counts, Clause::Descendants, asked.page.len(), asked.table);
+        let some = some_of(&tags, self.questions.tags, random);
+        self.attributes(counts, asked, reader, &some);
+        self.texts(counts, asked, reader, &some);
+        self.queries(counts, asked, reader);
+        let some = some_of(&tags, self.questions.below, random);
+        self.queries_below(counts, asked, reader, &some);
     }
 
     /// Part 1: the beginning's tags are the whole page's whose opening `>` lies before the cut, each with the same start,
@@ -326,36 +365,38 @@ impl<'p, R: Reader> Whole<'p, R> {
                     )
                 });
             }
-            if !is || h >= whole.count() {
-                continue;
-            }
-            counts.tags += 1;
-            let start = (rows.start(h), whole.start(h));
-            if start.0 != start.1 {
-                self.differ(counts, Clause::Start, n, Some(h), || {
-                    format!(
-                        "{} in the beginning, {} in the whole page",
-                        start.0, start.1
-                    )
-                });
-            }
-            let name = (rows.name(asked.page, h), whole.name(self.page, h));
-            if name.0.is_none() || name.0 != name.1 {
-                self.differ(counts, Clause::Name, n, Some(h), || {
-                    let said =
-                        |name: Option<&[u8]>| name.map(|name| name.escape_ascii().to_string());
-                    format!("{:?} and {:?}", said(name.0), said(name.1))
-                });
-            }
-            let parent = (rows.parent(h), whole.parent(h));
-            if parent.0 != parent.1 {
-                self.differ(counts, Clause::Parent, n, Some(h), || {
-                    format!("word 6 is {} and {}", parent.0, parent.1)
-                });
+            if is && h < whole.count() {
+                counts.tags += 1;
+                self.same(counts, asked, whole, h);
             }
         }
         self.table = table;
         tags
+    }
+
+    /// A tag's start, name and parent are the same in the whole page.
+    fn same(&mut self, counts: &mut Counts, asked: Asked<'_>, whole: Rows<'_>, h: u32) {
+        let n = asked.page.len();
+        let rows = Rows(asked.table);
+        let (one, other) = (rows.start(h), whole.start(h));
+        if one != other {
+            self.differ(counts, Clause::Start, n, Some(h), || {
+                format!("{one} in the beginning, {other} in the whole page")
+            });
+        }
+        let (one, other) = (rows.name(asked.page, h), whole.name(self.page, h));
+        if one.is_none() || one != other {
+            self.differ(counts, Clause::Name, n, Some(h), || {
+                let said = |name: Option<&[u8]>| name.map(|name| name.escape_ascii().to_string());
+                format!("{:?} and {:?}", said(one), said(other))
+            });
+        }
+        let (one, other) = (rows.parent(h), whole.parent(h));
+        if one != other {
+            self.differ(counts, Clause::Parent, n, Some(h), || {
+                format!("word 6 is {one} and {other}")
+            });
+        }
     }
 
     /// No part of the statement: word 8 of the tags that both pages have.
@@ -613,7 +654,9 @@ fn unlike(text: &Text, whole: &Text, same: bool) -> Vec<(Clause, String)> {
 #[cfg(test)]
 mod tests {
     use super::*;
-    use crate::reader::{Alteration, Altered, Compiled};
+    use crate::altered::{Alteration, Altered, AnyLength};
+    use crate::profiles::limited;
+    use crate::reader::Compiled;
 
     static ONLY_TEXTS: Questions = Questions {
         names: Vec::new(),
@@ -623,8 +666,9 @@ mod tests {
     };
 
     fn at_every_cut(page: &[u8]) -> Counts {
+        let tl = Profile::TL;
         let mut counts = Counts::default();
-        let mut whole = Whole::new(page, &ONLY_TEXTS, &Compiled, &mut counts);
+        let mut whole = Whole::new(&tl, page, &ONLY_TEXTS, &Compiled, &mut counts);
         for n in 0..=page.len() {
             whole.cut(n, &Compiled, &mut Random::new(0, 0), &mut counts);
         }
@@ -674,7 +718,8 @@ mod tests {
     fn a_wrong_text_of_the_whole_page_is_reported() {
         let page = b"<a>x<b></b></a>y";
         let reader = Altered::new(Alteration::TextShortened);
-        let mut whole = Whole::new(page, &ONLY_TEXTS, &reader, &mut Counts::default());
+        let tl = Profile::TL;
+        let mut whole = Whole::new(&tl, page, &ONLY_TEXTS, &reader, &mut Counts::default());
         for n in 0..=page.len() {
             let mut counts = Counts::default();
             whole.cut(n, &Compiled, &mut Random::new(0, 0), &mut counts);
@@ -688,5 +733,24 @@ mod tests {
             };
             assert_eq!(clauses, expected, "cut at {n}");
         }
+    }
+
+    #[test]
+    fn a_page_over_the_limit() {
+        let (page, profile) = (b"<a>xy", limited(&Profile::TL, 3));
+        let at_every_cut = |reader: &dyn Fn(&mut Whole<'_, Compiled>, usize, &mut Counts)| {
+            let mut counts = Counts::default();
+            let mut whole = Whole::new(&profile, page, &ONLY_TEXTS, &Compiled, &mut counts);
+            (0..=page.len()).for_each(|n| reader(&mut whole, n, &mut counts));
+            let cuts: Vec<usize> = whole.differences.iter().map(|it| it.cut).collect();
+            (counts.cuts, counts.over_limit, counts.tags, cuts)
+        };
+        let random = || Random::new(0, 0);
+        let right =
+            at_every_cut(&|whole, n, counts| whole.cut(n, &Compiled, &mut random(), counts));
+        assert_eq!(right, (6, 6, 0, vec![]));
+        let wrong =
+            at_every_cut(&|whole, n, counts| whole.cut(n, &AnyLength, &mut random(), counts));
+        assert_eq!(wrong, (6, 6, 0, vec![4, 5]));
     }
 }

@@ -61,49 +61,57 @@ fn is_identifier(byte: u8) -> bool {
     byte.is_ascii_alphanumeric() || b"-_:+/".contains(&byte)
 }
 
-fn is_white(byte: u8) -> bool {
-    byte == b' ' || byte == b'\n'
+/// The bytes of a tag, which end after its opening `>`, and what is white in them.
+struct Opening<'p> {
+    bytes: &'p [u8],
+    white: Vec<u8>,
 }
 
-/// The attributes of a tag, from the end of its name; the bytes end after its opening `>`.
-fn attributes(bytes: &[u8]) -> Vec<(Range<usize>, Option<Range<usize>>)> {
-    let run = |mut at: usize, of: &dyn Fn(u8) -> bool| {
-        while at < bytes.len() && of(bytes[at]) {
-            at += 1;
+impl Opening<'_> {
+    fn is_white(&self, byte: u8) -> bool {
+        self.white.contains(&byte)
+    }
+
+    /// The place after the bytes from here on that are so.
+    fn run(&self, at: usize, of: impl Fn(u8) -> bool) -> usize {
+        let rest = &self.bytes[at..];
+        at + rest.iter().take_while(|byte| of(**byte)).count()
+    }
+
+    /// The value that starts here.
+    fn value(&self, at: usize) -> Range<usize> {
+        match self.bytes.get(at) {
+            Some(&quote @ (b'"' | b'\'')) => at + 1..self.run(at + 1, |byte| byte != quote),
+            _ => {
+                at..self.run(at, |byte| {
+                    !self.is_white(byte) && byte != b'/' && byte != b'>'
+                })
+            }
         }
-        at
-    };
-    let mut all = Vec::new();
-    let mut at = 0;
-    loop {
-        at = run(at, &is_white);
-        if at >= bytes.len() || bytes[at] == b'/' || bytes[at] == b'>' {
-            return all;
+    }
+
+    /// The names and values of the attributes.
+    fn attributes(&self) -> Vec<(Range<usize>, Option<Range<usize>>)> {
+        let ends = |at: usize| matches!(self.bytes.get(at), None | Some(b'/' | b'>'));
+        let is_white = |byte| self.is_white(byte);
+        let mut all = Vec::new();
+        let mut at = self.run(0, is_white);
+        while !ends(at) {
+            let name = at..self.run(at, is_identifier);
+            at = self.run(name.end, is_white);
+            let mut value = None;
+            if self.bytes.get(at) == Some(&b'=') {
+                let read = self.value(self.run(at + 1, is_white));
+                at = read.end;
+                value = Some(read);
+            }
+            all.push((name, value));
+            if !ends(at) {
+                at += 1;
+            }
+            at = self.run(at, is_white);
         }
-        let end = run(at, &is_identifier);
-        let name = at..end;
-        at = run(end, &is_white);
-        let mut value = None;
-        if bytes.get(at) == Some(&b'=') {
-            at = run(at + 1, &is_white);
-            let start = match bytes.get(at) {
-                Some(&quote @ (b'"' | b'\'')) => {
-                    let start = at + 1;
-                    at = run(start, &|byte| byte != quote);
-                    start
-                }
-                _ => {
-                    let start = at;
-                    at = run(at, &|byte| !is_white(byte) && byte != b'/' && byte != b'>');
-                    start
-                }
-            };
-            value = Some(start..at);
-        }
-        all.push((name, value));
-        if at < bytes.len() && bytes[at] != b'/' && bytes[at] != b'>' {
-            at += 1;
-        }
+        all
     }
 }
 
@@ -121,7 +129,11 @@ fn words(dom: &Dom<'_>) -> Words {
         tags.insert(name.to_vec());
         let name_end = dom.table()[words_for(node.handle().index()) + 4] as usize;
         let bytes = &page[name_end..opened];
-        for (name, value) in attributes(bytes) {
+        let opening = Opening {
+            bytes,
+            white: dom.profile().white().collect(),
+        };
+        for (name, value) in opening.attributes() {
             let name = bytes[name].to_vec();
             names.insert(name.clone());
             let Some(value) = value else { continue };
@@ -336,7 +348,7 @@ fn broken(random: &mut Random, words: &Words) -> Vec<u8> {
 #[cfg(test)]
 mod tests {
     use super::*;
-    use crate::pages;
+    use crate::{pages, profiles};
     use tl_rattle::{Held, Refusal};
 
     const EXTENT: Extent = Extent {
@@ -345,6 +357,17 @@ mod tests {
         tags: 0,
         below: 0,
     };
+
+    /// The names that are read from the page here are those that the calls find.
+    fn names_are_held(dom: &Dom<'_>) {
+        for name in words(dom).names {
+            let mut tags = dom.nodes().filter(|node| node.is_tag());
+            let held = |handle| dom.attribute(handle, &name).unwrap() != Held::Absent;
+            // an id or class without a value counts as absent
+            let bare = name == b"id" || name == b"class";
+            assert!(bare || tags.any(|tag| held(tag.handle())));
+        }
+    }
 
     #[test]
     fn names_that_occur_are_held() {
@@ -355,14 +378,10 @@ mod tests {
             let mut random = Random::new(1, number);
             for kind in pages::KINDS {
                 let page = pages::page(&mut random, kind, 200);
-                let dom = tl_rattle::parse(&page).unwrap();
-                for name in words(&dom).names {
-                    let mut tags = dom.nodes().filter(|node| node.is_tag());
-                    let held = |handle| dom.attribute(handle, &name).unwrap() != Held::Absent;
-                    // an id or class without a value counts as absent
-                    let bare = name == b"id" || name == b"class";
-                    assert!(bare || tags.any(|tag| held(tag.handle())));
-                }
+                names_are_held(&tl_rattle::parse(&page).unwrap());
+                let profile = profiles::profile(&mut random, &page);
+                let page = profiles::adapted(&mut random, &profile, page);
+                names_are_held(&tl_rattle::parse_with(&profile, &page).unwrap());
             }
         }
     }

@@ -1,23 +1,21 @@
-//! The calls that the comparison asks: as compiled, or with one kind of answer altered on purpose.
-
-use std::cell::Cell;
+//! The calls that the comparison asks.
 
 use tl_rattle::calls::{self, HeldAt};
-use tl_rattle::Refusal;
-
-use crate::rows::Rows;
+use tl_rattle::{Profile, Refusal};
 
 pub trait Reader {
-    fn parse(&self, page: &[u8], table: &mut [u32]) -> Result<usize, Refusal> {
-        calls::parse(page, table)
+    fn parse(&self, profile: &Profile, page: &[u8], table: &mut [u32]) -> Result<usize, Refusal> {
+        calls::parse(profile, page, table)
     }
 
     fn attribute(&self, asked: Asked<'_>, handle: u32, name: &[u8]) -> Result<HeldAt, Refusal> {
-        calls::attribute(asked.page, asked.table, handle as usize, name)
+        let (profile, page, table) = asked.all();
+        calls::attribute(profile, page, table, handle as usize, name)
     }
 
     fn query(&self, asked: Asked<'_>, selector: &[u8], out: &mut [u32]) -> Result<usize, Refusal> {
-        calls::query_selector(asked.page, asked.table, selector, out)
+        let (profile, page, table) = asked.all();
+        calls::query_selector(profile, page, table, selector, out)
     }
 
     fn below(
@@ -27,337 +25,39 @@ pub trait Reader {
         selector: &[u8],
         out: &mut [u32],
     ) -> Result<usize, Refusal> {
-        calls::query_selector_below(asked.page, asked.table, handle as usize, selector, out)
+        let (profile, page, table) = asked.all();
+        calls::query_selector_below(profile, page, table, handle as usize, selector, out)
     }
 
     fn text(&self, asked: Asked<'_>, handle: u32, out: &mut [u8]) -> Result<usize, Refusal> {
-        calls::inner_text(asked.page, asked.table, handle as usize, out)
+        let (profile, page, table) = asked.all();
+        calls::inner_text(profile, page, table, handle as usize, out)
     }
 }
 
-/// A page with its table.
+/// A page with its table, and the profile that it was read with.
 #[derive(Clone, Copy)]
 pub struct Asked<'p> {
+    pub profile: &'p Profile,
     pub page: &'p [u8],
     pub table: &'p [u32],
+}
+
+impl<'p> Asked<'p> {
+    /// The same by another profile.
+    pub fn by<'q>(self, profile: &'q Profile) -> Asked<'q>
+    where
+        'p: 'q,
+    {
+        Asked { profile, ..self }
+    }
+
+    fn all(self) -> (&'p Profile, &'p [u8], &'p [u32]) {
+        (self.profile, self.page, self.table)
+    }
 }
 
 /// The calls as they are.
 pub struct Compiled;
 
 impl Reader for Compiled {}
-
-/// What is altered.
-#[derive(Clone, Copy, Debug, PartialEq, Eq)]
-pub enum Alteration {
-    ReadingRefused,
-    ReadOneByteLess,
-    LastTagDropped,
-    TextMadeATag,
-    StartMoved,
-    NameShortened,
-    ParentForgotten,
-    LastTooLow,
-    LastTooHigh,
-    ValueForgotten,
-    ValueShortened,
-    AbsentMadeBare,
-    AttributeRefused,
-    FindDropped,
-    FindInvented,
-    FindsSwapped,
-    QueryRefused,
-    OtherRefusal,
-    QueryAccepted,
-    FindBelowDropped,
-    FindBelowInvented,
-    BelowRefused,
-    TextRefused,
-    TextLengthened,
-    TextShortened,
-    ClosedTextShortened,
-}
-
-pub const ALTERATIONS: [Alteration; 26] = [
-    Alteration::ReadingRefused,
-    Alteration::ReadOneByteLess,
-    Alteration::LastTagDropped,
-    Alteration::TextMadeATag,
-    Alteration::StartMoved,
-    Alteration::NameShortened,
-    Alteration::ParentForgotten,
-    Alteration::LastTooLow,
-    Alteration::LastTooHigh,
-    Alteration::ValueForgotten,
-    Alteration::ValueShortened,
-    Alteration::AbsentMadeBare,
-    Alteration::AttributeRefused,
-    Alteration::FindDropped,
-    Alteration::FindInvented,
-    Alteration::FindsSwapped,
-    Alteration::QueryRefused,
-    Alteration::OtherRefusal,
-    Alteration::QueryAccepted,
-    Alteration::FindBelowDropped,
-    Alteration::FindBelowInvented,
-    Alteration::BelowRefused,
-    Alteration::TextRefused,
-    Alteration::TextLengthened,
-    Alteration::TextShortened,
-    Alteration::ClosedTextShortened,
-];
-
-/// The calls with some answers altered.
-pub struct Altered {
-    alteration: Alteration,
-    taken: Cell<bool>,
-}
-
-impl Altered {
-    pub fn new(alteration: Alteration) -> Altered {
-        Altered {
-            alteration,
-            taken: Cell::new(false),
-        }
-    }
-
-    /// Whether an answer was altered since this was last asked.
-    pub fn taken(&self) -> bool {
-        self.taken.replace(false)
-    }
-
-    fn is(&self, alteration: Alteration) -> bool {
-        self.alteration == alteration
-    }
-
-    fn take(&self) {
-        self.taken.set(true);
-    }
-
-    /// Drops, invents or swaps a find. Only tags count, since texts and comments are left out.
-    fn finds(
-        &self,
-        drops: bool,
-        invents: bool,
-        swaps: bool,
-        asked: Asked<'_>,
-        many: usize,
-        out: &mut [u32],
-    ) -> usize {
-        let rows = Rows(asked.table);
-        let tags: Vec<usize> = (0..many).filter(|at| rows.is_tag(out[*at])).collect();
-        if let (true, Some(last)) = (drops, tags.last()) {
-            self.take();
-            out.copy_within(last + 1..many, *last);
-            return many - 1;
-        }
-        if invents && many < out.len() {
-            let new = (0..rows.count()).find(|h| rows.is_tag(*h) && !out[..many].contains(h));
-            if let Some(new) = new {
-                self.take();
-                out[many] = new;
-                return many + 1;
-            }
-        }
-        if let (true, [first, second, ..]) = (swaps, &tags[..]) {
-            self.take();
-            out.swap(*first, *second);
-        }
-        many
-    }
-}
-
-impl Reader for Altered {
-    fn parse(&self, page: &[u8], table: &mut [u32]) -> Result<usize, Refusal> {
-        let count = calls::parse(page, table)?;
-        let rows = Rows(table);
-        let all = 0..rows.count();
-        let last_with = |with: &dyn Fn(u32) -> bool| all.clone().rev().find(|h| with(*h));
-        match self.alteration {
-            Alteration::ReadingRefused => {
-                self.take();
-                return Err(Refusal::TableTooSmall);
-            }
-            Alteration::ReadOneByteLess => {
-                let tags = all.clone().filter(|h| rows.is_tag(*h)).count();
-                let less = &page[..page.len().saturating_sub(1)];
-                let count = calls::parse(less, table)?;
-                let rows = Rows(table);
-                if (0..rows.count()).filter(|h| rows.is_tag(*h)).count() < tags {
-                    self.take();
-                }
-                table[2] = page.len() as u32;
-                return Ok(count);
-            }
-            Alteration::LastTagDropped => {
-                if let Some(h) = last_with(&|h| rows.is_tag(h)) {
-                    self.take();
-                    let row = Rows::at(h);
-                    table[row] = 2;
-                    table[row + 3..row + 6].fill(0);
-                    table[row + 7] = h;
-                    table[row + 8] = 0;
-                }
-            }
-            Alteration::TextMadeATag => {
-                let long = |h| !rows.is_tag(h) && rows.start(h) + 2 < rows.end(h);
-                if let Some(h) = last_with(&long) {
-                    self.take();
-                    let (row, start) = (Rows::at(h), rows.start(h));
-                    table[row] = 1;
-                    table[row + 3..row + 6].copy_from_slice(&[start + 1, start + 1, start + 2]);
-                    table[row + 8] = 1;
-                }
-            }
-            Alteration::StartMoved => {
-                if let Some(h) = last_with(&|h| rows.is_tag(h)) {
-                    self.take();
-                    table[Rows::at(h) + 1] += 1;
-                }
-            }
-            Alteration::NameShortened => {
-                let named = |h| rows.is_tag(h) && rows.word(h, 3) < rows.word(h, 4);
-                if let Some(h) = last_with(&named) {
-                    self.take();
-                    table[Rows::at(h) + 4] -= 1;
-                }
-            }
-            Alteration::ParentForgotten => {
-                if let Some(h) = last_with(&|h| rows.is_tag(h) && rows.parent(h) > 0) {
-                    self.take();
-                    table[Rows::at(h) + 6] = 0;
-                }
-            }
-            Alteration::LastTooLow => {
-                if let Some(h) = last_with(&|h| rows.is_tag(h) && rows.last(h) > h) {
-                    self.take();
-                    table[Rows::at(h) + 7] -= 1;
-                }
-            }
-            Alteration::LastTooHigh => {
-                if let Some(h) = last_with(&|h| rows.is_tag(h)) {
-                    self.take();
-                    table[Rows::at(h) + 7] += 1;
-                }
-            }
-            _ => {}
-        }
-        Ok(count)
-    }
-
-    fn attribute(&self, asked: Asked<'_>, handle: u32, name: &[u8]) -> Result<HeldAt, Refusal> {
-        let held = Compiled.attribute(asked, handle, name);
-        let altered = match (self.alteration, held) {
-            (Alteration::ValueForgotten, Ok(HeldAt::Value(..))) => Ok(HeldAt::Bare),
-            (Alteration::ValueShortened, Ok(HeldAt::Value(start, end))) if start < end => {
-                Ok(HeldAt::Value(start, end - 1))
-            }
-            (Alteration::AbsentMadeBare, Ok(HeldAt::Absent)) => Ok(HeldAt::Bare),
-            (Alteration::AttributeRefused, Ok(_)) => Err(Refusal::NotATag),
-            _ => return held,
-        };
-        self.take();
-        altered
-    }
-
-    fn query(&self, asked: Asked<'_>, selector: &[u8], out: &mut [u32]) -> Result<usize, Refusal> {
-        let answer = Compiled.query(asked, selector, out);
-        let altered = match (self.alteration, answer) {
-            (Alteration::QueryRefused, Ok(_)) => Err(Refusal::SelectorNotRead),
-            (Alteration::OtherRefusal, Err(Refusal::SelectorTooLong)) => {
-                Err(Refusal::SelectorNotRead)
-            }
-            (Alteration::QueryAccepted, Err(_)) => Ok(0),
-            (_, Ok(many)) => {
-                let drops = self.is(Alteration::FindDropped);
-                let invents = self.is(Alteration::FindInvented);
-                let swaps = self.is(Alteration::FindsSwapped);
-                return Ok(self.finds(drops, invents, swaps, asked, many, out));
-            }
-            _ => return answer,
-        };
-        self.take();
-        altered
-    }
-
-    fn below(
-        &self,
-        asked: Asked<'_>,
-        handle: u32,
-        selector: &[u8],
-        out: &mut [u32],
-    ) -> Result<usize, Refusal> {
-        let answer = Compiled.below(asked, handle, selector, out);
-        match (self.alteration, answer) {
-            (Alteration::BelowRefused, Ok(_)) => {
-                self.take();
-                Err(Refusal::NotATag)
-            }
-            (_, Ok(many)) => {
-                let drops = self.is(Alteration::FindBelowDropped);
-                let invents = self.is(Alteration::FindBelowInvented);
-                Ok(self.finds(drops, invents, false, asked, many, out))
-            }
-            _ => answer,
-        }
-    }
-
-    fn text(&self, asked: Asked<'_>, handle: u32, out: &mut [u8]) -> Result<usize, Refusal> {
-        let many = Compiled.text(asked, handle, out)?;
-        let altered = match self.alteration {
-            Alteration::TextRefused => Err(Refusal::NotATag),
-            Alteration::TextLengthened if many > 0 && many < out.len() => {
-                out.copy_within(..many, 1);
-                // unlike the first byte, so that the whole page's text does not begin so
-                out[0] = !out[1];
-                Ok(many + 1)
-            }
-            Alteration::TextShortened if many > 0 => Ok(many - 1),
-            Alteration::ClosedTextShortened if many > 0 && has_closing_tag(asked, handle) => {
-                Ok(many - 1)
-            }
-            _ => return Ok(many),
-        };
-        self.take();
-        altered
-    }
-}
-
-/// The calls, with word 8 of every tag exchanged for another one where the table stays sound with it, so that no call refuses
-/// the table.
-#[derive(Default)]
-pub struct EndedExchanged {
-    pub exchanged: Cell<usize>,
-}
-
-impl Reader for EndedExchanged {
-    fn parse(&self, page: &[u8], table: &mut [u32]) -> Result<usize, Refusal> {
-        let count = calls::parse(page, table)?;
-        for h in 0..count as u32 {
-            if let Some(other) = other_ending(Rows(table), h) {
-                table[Rows::at(h) + 8] = other;
-                self.exchanged.set(self.exchanged.get() + 1);
-            }
-        }
-        Ok(count)
-    }
-}
-
-/// Another word 8 for a tag's row: 1 and 2 stand for a closed tag; 0, and 3 where nothing descends from it, for one that is not.
-fn other_ending(rows: Rows<'_>, handle: u32) -> Option<u32> {
-    match rows.ended(handle) {
-        _ if !rows.is_tag(handle) => None,
-        0 if rows.last(handle) == handle => Some(3),
-        1 => Some(2),
-        2 => Some(1),
-        3 => Some(0),
-        _ => None,
-    }
-}
-
-/// Whether a whole closing tag closes the tag: then the whole page closes it there too, and all below it has ended.
-fn has_closing_tag(asked: Asked<'_>, handle: u32) -> bool {
-    let rows = Rows(asked.table);
-    let end = rows.end(handle);
-    end > rows.opened(handle) && asked.page[end as usize - 1] == b'>'
-}

@@ -1,11 +1,12 @@
 //! Runs the program `fullpage` on every length and on inputs that it must refuse. A page that it writes must be read into a
-//! table of exactly as many rows as its length allows, and be refused as 2 where a row, or a word, is missing.
+//! table of exactly as many rows as its length allows, and be refused as 2 where a row, or a word, is missing: by tl's profile,
+//! and by others whose limit the page just keeps. By a lower limit it must be refused as 1.
 //!
 //! Ends with status 0 if all is as it must be, 1 at the first that is not, 2 if it was started wrongly.
 
 use std::io::Write;
 use std::process::{Command, ExitCode, Stdio};
-use tl_rattle::{calls, max_nodes, words_for, Refusal, MAX_PAGE};
+use tl_rattle::{calls, max_nodes, words_for, Profile, Refusal, MAX_PAGE};
 
 /// Inputs that ask for no page.
 const REFUSED: [&[u8]; 27] = [
@@ -66,16 +67,52 @@ fn written(program: &str, input: &[u8]) -> Result<Vec<u8>, String> {
     }
 }
 
-/// Reads a page into so many words, marked before.
-fn read(page: &[u8], words: usize) -> (Result<usize, Refusal>, Vec<u32>) {
-    let mut table = vec![u32::MAX; words];
-    (calls::parse(page, &mut table), table)
+/// A profile of so many bytes at most, with these white bytes and void names.
+fn profile(limit: usize, white: &[u8], names: &[&str]) -> Profile {
+    let begun = Profile::TL.with_limit(limit);
+    let begun = begun.and_then(|begun| begun.with_white(white));
+    let made = begun.and_then(|begun| begun.with_void_names(names));
+    made.expect("it is within its limits")
 }
 
-/// A table with this many words is too small, and left all zeros.
-fn is_too_small(page: &[u8], words: usize) -> bool {
-    let (said, table) = read(page, words);
-    said == Err(Refusal::TableTooSmall) && table.iter().all(|&word| word == 0)
+/// tl's profile, and others whose limit a page of so many bytes just keeps. None makes the page's bytes white, and the name of its
+/// tags, which is empty, is void in none.
+fn profiles(length: usize) -> [Profile; 3] {
+    let limit = length.max(1);
+    let names = ["a", "x", "br", "0123456789abcdef"];
+    [
+        Profile::TL,
+        profile(limit, b"\t \r\x01", &names),
+        profile(limit, b"", &[]),
+    ]
+}
+
+/// Reads a page by a profile into so many words, marked before.
+fn read(profile: &Profile, page: &[u8], words: usize) -> (Result<usize, Refusal>, Vec<u32>) {
+    let mut table = vec![u32::MAX; words];
+    (calls::parse(profile, page, &mut table), table)
+}
+
+/// With this many words the page is refused as said, and the table is left all zeros.
+fn is_refused(profile: &Profile, page: &[u8], words: usize, refusal: Refusal) -> bool {
+    let (said, table) = read(profile, page, words);
+    said == Err(refusal) && table.iter().all(|&word| word == 0)
+}
+
+/// Holds a page by a profile to the most nodes that it may have.
+fn check_by(profile: &Profile, page: &[u8], nodes: usize) -> Result<(), String> {
+    let (said, _) = read(profile, page, words_for(nodes));
+    if said != Ok(nodes) {
+        return Err(format!("with {nodes} rows: {said:?}"));
+    }
+    let is_too_small = |words| is_refused(profile, page, words, Refusal::TableTooSmall);
+    if !is_too_small(words_for(nodes) - 1) {
+        return Err(format!("accepted with a word less than {nodes} rows"));
+    }
+    if nodes > 0 && !is_too_small(words_for(nodes - 1)) {
+        return Err(format!("accepted with a row less than {nodes}"));
+    }
+    Ok(())
 }
 
 /// Holds what was written for a length to it.
@@ -87,15 +124,12 @@ fn check(page: &[u8], length: usize) -> Result<(), String> {
     if max_nodes(length) != nodes {
         return Err(format!("the library says {} nodes", max_nodes(length)));
     }
-    let (said, _) = read(page, words_for(nodes));
-    if said != Ok(nodes) {
-        return Err(format!("with {nodes} rows: {said:?}"));
+    for profile in profiles(length) {
+        check_by(&profile, page, nodes).map_err(|why| format!("{profile:?}: {why}"))?;
     }
-    if !is_too_small(page, words_for(nodes) - 1) {
-        return Err(format!("accepted with a word less than {nodes} rows"));
-    }
-    if nodes > 0 && !is_too_small(page, words_for(nodes - 1)) {
-        return Err(format!("accepted with a row less than {nodes}"));
+    let lower = profile(length.max(2) - 1, b" \n", &[]);
+    if length > 1 && !is_refused(&lower, page, words_for(nodes), Refusal::PageTooLong) {
+        return Err(String::from("accepted by a lower limit"));
     }
     Ok(())
 }
@@ -132,7 +166,10 @@ fn main() -> ExitCode {
     match run(program) {
         Ok(()) => {
             let (lengths, refused) = (MAX_PAGE + 1, REFUSED.len());
-            println!("{lengths} lengths and {refused} refused inputs, no difference");
+            let ways = profiles(0).len();
+            println!(
+                "{lengths} lengths by {ways} profiles and {refused} refused inputs, no difference"
+            );
             ExitCode::SUCCESS
         }
         Err(why) => {

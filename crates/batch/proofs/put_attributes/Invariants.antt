@@ -7,5 +7,5 @@ use Rattle.batch.proofs.put_attributes.Given as goal
 
 abbrev pub invariant-loop-h : goal.invariant-loop-h
 invariant-loop-h l =
-    let held = three l.d.page.now l.d.table.now l.name in
+    let held = three l.tags.profile.bytes.now l.d.page.now l.d.table.now l.name in
     Left l.initial.out 0 (each held l.tags.handles.now) l.out l.at (each held (drop l.h-index l.tags.handles.now))

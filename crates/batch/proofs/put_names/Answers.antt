@@ -15,6 +15,7 @@ unfolding names_found
 returns-then-none_named c =
     let a = c.args in
     let names = a.names.now in
+    let q = a.tags.now.profile.bytes.now in
     let p = a.tags.now.document.page.now in
     let ws = a.tags.now.document.table.now in
     let hs = a.tags.now.handles.now in
@@ -22,10 +23,11 @@ returns-then-none_named c =
     let fills : c.fill.new.self ≡ replicate (length (take all a.out.now)) 0 = search rules in
     let zeros = cleared a.out.now c.fill.new.self all c.requires fills in
     let size = ap (λ (k : ℕ). replicate k 0) (sym (mul_assoc 3 (length names.ends.now) (length hs))) in
-    let none : c.fill.new.self ≡ each (words p ws names.text.now names.ends.now) hs =
+    let none : c.fill.new.self ≡ each (words q p ws names.text.now names.ends.now) hs =
     zeros ∙ size
-    ∙ words_none p ws names.text.now names.ends.now hs _ (tag_at a.tags.now) c.begun_alike-first.ensures.alike (c.none_named.ensures c.if-none_named.true) in
-    rw (c.len.ensures, none, words_all p ws names.text.now names.ends.now hs)
+    ∙ words_none q p ws names.text.now names.ends.now hs _ (tag_at a.tags.now) c.begun_alike-first.ensures.alike
+    (c.none_named.ensures c.if-none_named.true) in
+    rw (c.len.ensures, none, words_all q p ws names.text.now names.ends.now hs)
 
 pub read_names-requires-clause-zeros : goal.read_names-requires-clause-zeros
 read_names-requires-clause-zeros c =

@@ -1,6 +1,7 @@
 -- `batch::read_names` meets its contract: the words of the handles that were passed are written, the others are zero yet.
-use Rattle.std.proofs.Common.{rules, refl, arith, ◌∙◌, ◌*◌, length}
+use Rattle.std.proofs.Common.{rules, refl, ap, arith, not, ◌∙◌, ◌*◌, length}
 use Rattle.rules.specs.Batch.{names_found}
+use Rattle.rules.proofs.Asking.{page_short}
 use Rattle.batch.proofs.Handles.{tag_at}
 use Rattle.batch.proofs.Names.{words, words_length, words_tag}
 use Rattle.batch.proofs.Cleared.{done_none, done_all, done_zeros, done_more}
@@ -10,11 +11,18 @@ pub loop-h-init : goal.loop-h-init
 loop-h-init c =
     let a = c.args in
     let names = a.names.now in
+    let q = a.tags.now.profile.bytes.now in
     let d = a.tags.now.document in (
       refl,
-      done_none (words d.page.now d.table.now names.text.now names.ends.now) (3 * length names.ends.now)
-          (words_length d.page.now d.table.now names.text.now names.ends.now) a.tags.now.handles.now a.out.now c.requires.zeros,
+      done_none (words q d.page.now d.table.now names.text.now names.ends.now) (3 * length names.ends.now)
+          (words_length q d.page.now d.table.now names.text.now names.ends.now) a.tags.now.handles.now a.out.now c.requires.zeros,
     )
+
+pub attributes-requires-clause-inside : goal.attributes-requires-clause-inside
+attributes-requires-clause-inside c =
+    let tags = c.args.tags.now in
+    let few = page_short tags.profile.bytes.now tags.document.page.now (record { fine = ap not tags.profile.fine; short = tags.short }) in
+    rw c.of-tag.ensures.0 few
 
 pub attributes-requires-clause-zeros : goal.attributes-requires-clause-zeros
 attributes-requires-clause-zeros c = rw c.len.ensures (done_zeros _ _ _ _ c.loop-h.invariant.1 (omega arith))
@@ -23,9 +31,10 @@ pub loop-h-preserved : goal.loop-h-preserved
 loop-h-preserved c =
     let a = c.args in
     let names = a.names.now in
+    let q = a.tags.now.profile.bytes.now in
     let d = a.tags.now.document in
     let tag = tag_at a.tags.now c.loop-h.h-index (omega arith) in
-    let held = words_tag d.page.now d.table.now names.text.now names.ends.now tag c.new-t.ensures.white c.of-tag.ensures.1 in
+    let held = words_tag q d.page.now d.table.now names.text.now names.ends.now tag c.marks-t.ensures c.of-tag.ensures.1 in
     (search rules, rw c.len.ensures (done_more _ _ _ _ c.loop-h.invariant.1 (omega arith) _ (rw c.of-tag.ensures.0 at c.attributes.ensures ∙ held)))
 
 pub returns : goal.returns

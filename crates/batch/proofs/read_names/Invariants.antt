@@ -6,8 +6,9 @@ use Rattle.batch.proofs.read_names.Given as goal
 
 abbrev pub invariant-loop-h : goal.invariant-loop-h
 invariant-loop-h l =
+    let q = l.tags.profile.bytes.now in
     let p = l.d.page.now in
     let ws = l.d.table.now in
     (length l.out ≡ length l.initial.out)
-    × Done (words p ws l.names.text.now l.names.ends.now) (3 * length l.names.ends.now) (words_length p ws l.names.text.now l.names.ends.now)
+    × Done (words q p ws l.names.text.now l.names.ends.now) (3 * length l.names.ends.now) (words_length q p ws l.names.text.now l.names.ends.now)
     l.tags.handles.now l.h-index l.at l.out

@@ -1,6 +1,6 @@
 -- `calls::attribute_value` meets its contract: a value that `attribute` answers lies in the page.
 use mathlib.Core.Path.{sym, ◌∙◌}
-use Rattle.rules.specs.Bytes.{is_white}
+use Rattle.rules.specs.Profile.{settings_of}
 use Rattle.rules.specs.Answers.{attribute_part}
 use Rattle.calls.proofs.Tags.{value_inside}
 use Rattle.calls.proofs.attribute_value.Goals as goal
@@ -11,7 +11,7 @@ returns-in_default c = rw (sym c.attribute.ensures ∙ c.in_default.is)
 
 pub held_part-requires : goal.held_part-requires
 held_part-requires c = let a = c.args in
-    value_inside is_white a.page.now a.table.now a.h a.name.now _ (sym c.attribute.ensures ∙ c.in-Ok.is)
+    value_inside (settings_of a.profile.now) a.page.now a.table.now a.h a.name.now _ (sym c.attribute.ensures ∙ c.in-Ok.is)
 
 pub returns : goal.returns
 unfolding attribute_part

@@ -13,4 +13,4 @@ invariant_of-chain c = let few = (parsed _ _ _ _ c.in-Ok.ensures.answer c.in-Ok.
 pub returns : goal.returns
 returns c =
     let P = parsed _ _ _ _ c.in-Ok.ensures.answer c.in-Ok.ensures.chain in
-    walked _ c.args.s.now c.args.out.now P (rw (c.new-t.ensures.white, P.back) at c.query.ensures)
+    walked _ c.args.s.now c.args.out.now P (rw (c.marks-t.ensures, P.back) at c.query.ensures)

@@ -1,15 +1,14 @@
 -- `listing::list` meets its contract: an accepted page leaves a sound table, which is all that the lines ask.
 use mathlib.Core.Path.{sym, ◌∙◌}
-use Rattle.rules.specs.Bytes.{is_white}
-use Rattle.rules.specs.Names.{is_void}
+use Rattle.rules.specs.Profile.{settings_of, tl_profile}
 use Rattle.laws.proofs.Tables.{parsed_sound}
 use Rattle.listing.proofs.list.Goals as goal
 
 pub answer-requires : goal.answer-requires
 answer-requires c = λ n e. let a = c.args in
-    let read = c.parse-read.ensures in
-    rw read.table (parsed_sound is_white is_void a.page.now a.table.now n (sym read.answer ∙ e))
+    let read = rw c.tl.ensures at c.parse-read.ensures in
+    rw read.table (parsed_sound (settings_of tl_profile) a.page.now a.table.now n (sym read.answer ∙ e))
 
 pub returns : goal.returns
-returns c = let read = c.parse-read.ensures in
+returns c = let read = rw c.tl.ensures at c.parse-read.ensures in
     record { table = read.table; text = rw (read.table, read.answer) at c.answer.ensures }

@@ -29,8 +29,8 @@ impl Run<'_, '_> {
         );
         self.texts(handles);
         let lists = self.found.answers - before;
-        self.found.lists += lists;
-        self.found.listed += lists * handles.len() as u64;
+        self.found.covered.lists += lists;
+        self.found.covered.listed += lists * handles.len() as u64;
     }
 
     /// A handle that is no tag's is refused as 4, whatever room there is.

@@ -57,11 +57,6 @@ pub fn is_identifier(byte: u8) -> bool {
     byte.is_ascii_alphanumeric() || b"-_:+/".contains(&byte)
 }
 
-/// What a page's reader skips: space or line feed, no tab.
-pub fn is_white(byte: u8) -> bool {
-    byte == b' ' || byte == b'\n'
-}
-
 pub fn is_closing(byte: u8) -> bool {
     byte == b'/' || byte == b'>'
 }

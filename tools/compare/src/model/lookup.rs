@@ -1,7 +1,7 @@
 //! The questions to a page and its table: ranges, texts, attributes, ids and classes.
 use super::cursor::Cursor;
 use super::reader::{attributes, Attribute};
-use super::{Held, Manner, Row, Way};
+use super::{Held, Manner, Profile, Row, Way};
 use std::collections::HashSet;
 
 /// A page with its rows, ready to be asked. Each tag's attributes are read once, from its name's end to its opening.
@@ -12,9 +12,9 @@ pub struct Asked<'p> {
 }
 
 impl<'p> Asked<'p> {
-    pub fn new(page: &'p [u8], rows: &'p [Row]) -> Self {
+    pub fn new(page: &'p [u8], rows: &'p [Row], profile: &Profile) -> Self {
         let read = |row: &Row| match row.is_tag() {
-            true => attributes(&mut Cursor::new(&page[..row.opened], row.name.1)),
+            true => attributes(&mut Cursor::new(&page[..row.opened], row.name.1), profile),
             false => Vec::new(),
         };
         let attributes = rows.iter().map(read).collect();

@@ -1,5 +1,5 @@
 //! The paper's rules, written down a second time and as plainly as possible. The model is the second opinion on every page,
-//! and the only one on tables that no reading made.
+//! and the only one on tables that no reading made and under profiles that tl does not have.
 //!
 //! Where tl is known to depart from the paper, the model can answer in tl's way too (`Way`), so that tl is held to something
 //! exact there as well.
@@ -8,17 +8,22 @@ mod cursor;
 mod lists;
 mod lookup;
 mod matching;
+mod profile;
 mod reader;
 mod selector;
 mod table;
 
 pub use lists::{Names, Texts};
 pub use lookup::{class_words, Asked};
+pub use profile::{
+    limit_of, name_place, name_places, set_limit, tl_profile, Profile, ProfileBytes, NAMES,
+    NAMES_AT, NAME_BYTES, PROFILE_BYTES, TL_BYTES, WHITE_AT, WHITE_BYTES,
+};
 pub use reader::read;
 pub use selector::{read_selector, Piece};
 pub use table::{header, reading_of, words_for, words_of, HEADER_WORDS, ROW_WORDS};
 
-/// The longest page and the longest selector that the library takes.
+/// The longest page that a profile may allow, and the longest selector that the library takes.
 pub const PAGE_LIMIT: usize = 65_536;
 pub const SELECTOR_LIMIT: usize = 128;
 

@@ -1,15 +1,11 @@
 //! One step of the reader after the other, until the end of the page.
-use super::cursor::{is_closing, is_white, Cursor};
-use super::{Ended, Kind, Reading, Row, Span};
-
-const VOID_TAGS: [&[u8]; 15] = [
-    b"area", b"base", b"br", b"col", b"embed", b"hr", b"img", b"input", b"keygen", b"link",
-    b"meta", b"param", b"source", b"track", b"wbr",
-];
+use super::cursor::{is_closing, Cursor};
+use super::{Ended, Kind, Profile, Reading, Row, Span};
 
 /// Reads a page of any length.
-pub fn read(page: &[u8]) -> Reading {
+pub fn read(page: &[u8], profile: &Profile) -> Reading {
     let mut reader = Reader {
+        profile,
         at: Cursor::new(page, 0),
         rows: Vec::new(),
         open: Vec::new(),
@@ -36,6 +32,7 @@ fn settle_last(rows: &mut [Row]) {
 }
 
 struct Reader<'p> {
+    profile: &'p Profile,
     at: Cursor<'p>,
     rows: Vec<Row>,
     /// the open tags' handles, the innermost last
@@ -52,13 +49,17 @@ impl Reader<'_> {
             return;
         }
         self.at.pass(1);
-        self.at.run(is_white);
+        self.skip_white();
         match self.at.now() {
             None => {}
             Some(b'/') => self.closing_tag(),
             Some(b'!') => self.declaration(),
             Some(_) => self.tag(start),
         }
+    }
+
+    fn skip_white(&mut self) {
+        self.at.run(|byte| self.profile.is_white(byte));
     }
 
     /// Adds a row below the innermost open tag.
@@ -120,7 +121,7 @@ impl Reader<'_> {
 
     fn document_type(&mut self) {
         let word = self.at.identifier();
-        self.at.run(is_white);
+        self.skip_white();
         if !self.at.part(word).eq_ignore_ascii_case(b"doctype") {
             return;
         }
@@ -128,20 +129,20 @@ impl Reader<'_> {
         if self.at.part(which).eq_ignore_ascii_case(b"html") {
             self.version = 5;
         }
-        self.at.run(is_white);
+        self.skip_white();
         self.at.pass(1);
     }
 
     fn tag(&mut self, start: usize) {
         let name = self.at.identifier();
-        attributes(&mut self.at);
+        attributes(&mut self.at, self.profile);
         let slash = self.at.pass_if(b'/');
         if !self.at.pass_if(b'>') {
             return;
         }
         let end = self.at.place;
         let handle = self.add(Kind::Tag, start, end, name, end);
-        if slash || VOID_TAGS.contains(&self.at.part(name)) {
+        if slash || self.profile.is_void(self.at.part(name)) {
             self.rows[handle].ended = Ended::NeverOpened;
         } else {
             self.open.push(handle);
@@ -155,21 +156,22 @@ pub struct Attribute {
 }
 
 /// Reads attributes up to `/`, `>` or the end.
-pub fn attributes(at: &mut Cursor) -> Vec<Attribute> {
+pub fn attributes(at: &mut Cursor, profile: &Profile) -> Vec<Attribute> {
     let mut all = Vec::new();
     loop {
-        at.run(is_white);
+        at.run(|byte| profile.is_white(byte));
         if at.now().is_none_or(is_closing) {
             return all;
         }
-        all.push(attribute(at));
+        all.push(attribute(at, profile));
         if at.now().is_some_and(|byte| !is_closing(byte)) {
             at.pass(1);
         }
     }
 }
 
-fn attribute(at: &mut Cursor) -> Attribute {
+fn attribute(at: &mut Cursor, profile: &Profile) -> Attribute {
+    let is_white = |byte: u8| profile.is_white(byte);
     let name = at.identifier();
     at.run(is_white);
     if !at.pass_if(b'=') {

@@ -38,7 +38,7 @@ fn some_room(entries: usize, random: &mut Random) -> usize {
 }
 
 /// Numbers with a space after each, and the bytes that follow.
-fn body<T: ToString>(numbers: &[T], rest: &[u8]) -> Vec<u8> {
+pub fn body<T: ToString>(numbers: &[T], rest: &[u8]) -> Vec<u8> {
     let numbers = numbers.iter().map(|number| number.to_string() + " ");
     [numbers.collect::<String>().as_bytes(), rest].concat()
 }
@@ -86,12 +86,17 @@ fn texts(to: &mut Recording, handles: &[u32], tags: Option<&TlPage>, random: &mu
 
 /// Every question about a list, empty or not, is refused with this number.
 pub fn refused(to: &mut Recording, number: usize) {
-    let said = super::refused(number, 3);
     for handles in [&[][..], &[0][..]] {
-        let count = handles.len();
-        let list = |rest| body(handles, rest);
-        to.record([10, count, 3, 0], &list(b"k"), "attributes", &said);
-        to.record([11, count, 2, 1], &list(b""), "texts", &said);
-        to.record([13, count, 3, 1], &list(b"1 k"), "names", &said);
+        list_refused(to, handles, number);
     }
+}
+
+/// Every question about this list is.
+pub fn list_refused(to: &mut Recording, handles: &[u32], number: usize) {
+    let said = super::refused(number, 3);
+    let count = handles.len();
+    let list = |rest| body(handles, rest);
+    to.record([10, count, 3, 0], &list(b"k"), "attributes", &said);
+    to.record([11, count, 2, 1], &list(b""), "texts", &said);
+    to.record([13, count, 3, 1], &list(b"1 k"), "names", &said);
 }
