@@ -20,7 +20,7 @@ use Rattle.rules.proofs.Within.{within_within}
 use Rattle.laws.proofs.CutLexer.{part_cut}
 use Rattle.laws.proofs.Opening.{lookup_out}
 use Rattle.attributes.specs.Noting.{held_words}
-use Rattle.attributes.specs.Slots.{name_at, Alike}
+use Rattle.attributes.specs.Slots.{name_at, AllHave}
 use Rattle.attributes.proofs.Words.{names_at, names_absent}
 
 -- what xs starts with is within it
@@ -36,7 +36,7 @@ module _ (white : ℕ → Bool) (p : List ℕ) (n : Node) (l : n.stop < n.opened
   unfolding q
   size = length-take-le n.opened p h
 
-  pub absent_words : (s es k : List ℕ) → Alike s es k → (Within k (part p n.stop n.opened) → ⊥)
+  pub absent_words : (s es k : List ℕ) → AllHave s es k → (Within k (part p n.stop n.opened) → ⊥)
       → replicate (3 * length es) 0 ≡ held_words (lookup white p n) s es
   unfolding q
   absent_words s es k alike out =

@@ -11,7 +11,7 @@ use Rattle.rules.specs.Scan.{part, same}
 use Rattle.rules.specs.Refusals.{held_numbers}
 use Rattle.rules.specs.declared.Attribute.{Attribute}
 use Rattle.attributes.specs.Slots.{name_at}
-use Rattle.attributes.specs.Noting.{noted, Notes, NotesOne, NotesAll, words_of}
+use Rattle.attributes.specs.Noting.{noted, Notes, NotesOne, NotesAll, name_words}
 use Rattle.attributes.proofs.Words.{held_length, words_at_lem, words_by, put_size, put_its, put_others}
 
 module _ (p : List ℕ) (a : Attribute) (s es : List ℕ) where
@@ -32,10 +32,10 @@ module _ (p : List ℕ) (a : Attribute) (s es : List ℕ) where
   module _ (w₀ : List ℕ) where
     -- each name's were noted
     notes_all : length w₀ ≡ 3 * length es → {w : List ℕ} → length w ≡ length w₀
-        → ((j : ℕ) → j < length es → Notes p a (name_at s es j) (words_of j w₀) (words_of j w)) → NotesAll p a s es w₀ w
+        → ((j : ℕ) → j < length es → Notes p a (name_at s es j) (name_words j w₀) (name_words j w)) → NotesAll p a s es w₀ w
     notes_all n {w} m t f q =
         words_by s (λ k. held_numbers (noted p a k (f k))) (λ k. held_length (noted p a k (f k))) 0 es w (m ∙ n)
-        (λ j l. t j l (f (name_at s es j)) (ap (words_of j) q ∙ words_at_lem s (λ k. held_numbers (f k)) (λ k. held_length (f k)) 0 es j l))
+        (λ j l. t j l (f (name_at s es j)) (ap (name_words j) q ∙ words_at_lem s (λ k. held_numbers (f k)) (λ k. held_length (f k)) 0 es j l))
 
     -- no name is the attribute's
     pub notes_none : length w₀ ≡ 3 * length es → ((j : ℕ) → j < length es → same (part p a.name a.stop) (name_at s es j) ≡ false) → NotesAll p a s es w₀ w₀
@@ -46,15 +46,15 @@ module _ (p : List ℕ) (a : Attribute) (s es : List ℕ) where
         → ((i : ℕ) → i < length es → (i ≡ j → ⊥) → same (part p a.name a.stop) (name_at s es i) ≡ false) → NotesAll p a s es w₀ w
     notes_only n {j} {w} t o = notes_all n t.size (λ i l. go i l (ℕ_discrete i j))
       where
-        go : (i : ℕ) → i < length es → Dec (i ≡ j) → Notes p a (name_at s es i) (words_of i w₀) (words_of i w)
+        go : (i : ℕ) → i < length es → Dec (i ≡ j) → Notes p a (name_at s es i) (name_words i w₀) (name_words i w)
         go i l (yes e) = rw e t.its
         go i l (no e) = notes_other (name_at s es i) (o i l e) (t.others i e)
 
     -- those of the first j names were noted, and all are w
     pub record Noting (j : ℕ) (w : List ℕ) : Type 0 where
       pub size : length w ≡ length w₀
-      pub past : (i : ℕ) → i < j → Notes p a (name_at s es i) (words_of i w₀) (words_of i w)
-      pub rest : (i : ℕ) → j ≤ i → words_of i w ≡ words_of i w₀
+      pub past : (i : ℕ) → i < j → Notes p a (name_at s es i) (name_words i w₀) (name_words i w)
+      pub rest : (i : ℕ) → j ≤ i → name_words i w ≡ name_words i w₀
 
     pub noting_none : Noting 0 w₀
     noting_none = record { size = refl; past = λ i l. absurd (omega arith); rest = λ i l. refl }
@@ -68,7 +68,7 @@ module _ (p : List ℕ) (a : Attribute) (s es : List ℕ) where
             rest = λ i l. o.others i (λ e. omega arith) ∙ t.rest i (omega arith);
           }
         where
-          go : (i : ℕ) → i < j + 1 → Dec (i ≡ j) → Notes p a (name_at s es i) (words_of i w₀) (words_of i w₁)
+          go : (i : ℕ) → i < j + 1 → Dec (i ≡ j) → Notes p a (name_at s es i) (name_words i w₀) (name_words i w₁)
           go i l (yes e) = rw (e, ← t.rest j (omega arith)) o.its
           go i l (no e) = rw (o.others i e) (t.past i (omega arith))
 

@@ -15,7 +15,7 @@ use Rattle.rules.specs.declared.Held.TheVariants.{Absent}
 use Rattle.rules.proofs.Lookup.{AllInside, attributes_inside}
 use Rattle.tag.proofs.Fuel.{from}
 use Rattle.tag.specs.Tag.{InPage}
-use Rattle.attributes.specs.Noting.{held_words, noted, NotesAll, Placed}
+use Rattle.attributes.specs.Noting.{held_words, noted, NotesAll, FitsWords}
 use Rattle.attributes.proofs.Notes.{all_noted, all_noted_lem}
 use Rattle.attributes.proofs.Words.{names_absent, names_same}
 
@@ -28,7 +28,7 @@ module _ (white : ℕ → Bool) (p : List ℕ) where
   abbrev pub First : ℕ → Attribute → Type 0
   First i a = from white p i ≡ a ∷ from white p a.next
 
-  pub placed : (i : ℕ) {a : Attribute} → First i a → InPage (length p) a → length p ≤ page_limit → Placed (length p) a
+  pub placed : (i : ℕ) {a : Attribute} → First i a → InPage (length p) a → length p ≤ page_limit → FitsWords (length p) a
   placed i {a} cut in_page l =
       let all : AllInside white p (a ∷ from white p a.next) = rw cut at (attributes_inside white p (length p) i) in
       record { name = in_page.name; stop = in_page.stop; value = inside_page (length p) a.value l all.0 }

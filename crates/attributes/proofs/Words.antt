@@ -12,7 +12,7 @@ use Rattle.rules.specs.Refusals.{held_numbers}
 use Rattle.rules.specs.Batch.{each_name}
 use Rattle.rules.specs.declared.Held.{Held}
 use Rattle.rules.specs.declared.Held.TheVariants.{Absent, Bare, Value}
-use Rattle.attributes.specs.Noting.{words_of}
+use Rattle.attributes.specs.Noting.{name_words}
 
 pub held_length : (v : Held) → length (held_numbers v) ≡ 3
 held_length Absent = refl
@@ -51,7 +51,7 @@ module _ (s : List ℕ) where
     abbrev name : ℕ → List ℕ → ℕ → List ℕ
     name at es j = part s (get_or (at ∷ es) j 0) (get_or es j 0)
 
-    pub words_at_lem : (at : ℕ) (es : List ℕ) (j : ℕ) → j < length es → words_of j (each_name f s at es) ≡ f (name at es j)
+    pub words_at_lem : (at : ℕ) (es : List ℕ) (j : ℕ) → j < length es → name_words j (each_name f s at es) ≡ f (name at es j)
     unfolding each_name
     words_at_lem at [] j l = absurd (omega arith)
     words_at_lem at (e ∷ es) zero l = take_at (f (part s at e)) (each_name f s e es) 3 (three (part s at e))
@@ -61,7 +61,7 @@ module _ (s : List ℕ) where
         (words_at_lem e es j (omega arith))
 
     -- and all the words by each name's
-    pub words_by : (at : ℕ) (es w : List ℕ) → length w ≡ 3 * length es → ((j : ℕ) → j < length es → words_of j w ≡ f (name at es j)) → w ≡ each_name f s at es
+    pub words_by : (at : ℕ) (es w : List ℕ) → length w ≡ 3 * length es → ((j : ℕ) → j < length es → name_words j w ≡ f (name at es j)) → w ≡ each_name f s at es
     unfolding each_name
     words_by at [] w n q = sym (take_all 0 w (omega arith))
     words_by at (e ∷ es) w n q =
@@ -75,14 +75,14 @@ module _ (s : List ℕ) where
 
 -- ---- a name's words lie in the first m words, or behind them
 module _ (i m : ℕ) (w : List ℕ) where
-  words_front : m ≤ length w → 3 * i + 3 ≤ m → words_of i w ≡ words_of i (take m w)
+  words_front : m ≤ length w → 3 * i + 3 ≤ m → name_words i w ≡ name_words i (take m w)
   words_front n l =
       let size : length (take m w) ≡ m = length-take-le m w n in
-      ap (words_of i) (sym (take-append-drop m w))
+      ap (name_words i) (sym (take-append-drop m w))
       ∙ rw (drop-append-le (3 * i) (take m w) (drop m w) (omega arith))
       (take-append-le 3 (drop (3 * i) (take m w)) (drop m w) (omega (arith, length-drop (3 * i) (take m w))))
 
-  words_back : m ≤ 3 * i → words_of i w ≡ take 3 (drop (3 * i - m) (drop m w))
+  words_back : m ≤ 3 * i → name_words i w ≡ take 3 (drop (3 * i - m) (drop m w))
   words_back l =
       let z : m + (3 * i - m) ≡ 3 * i = omega arith in
       sym (rw (drop-drop (3 * i - m) m w, z))
@@ -98,18 +98,18 @@ module _ (w : List ℕ) (j : ℕ) (x : List ℕ) (room : 3 * j + 3 ≤ length w)
   pub put_size : length put ≡ length w
   put_size = same_len_mid (3 * j) (3 * j + 3 - 3 * j) w x n
 
-  pub put_its : words_of j put ≡ x
+  pub put_its : name_words j put ≡ x
   put_its =
       rw (drop_at (take (3 * j) w) (x ++ post_of (3 * j) (3 * j + 3 - 3 * j) w) (3 * j) (length-take-le (3 * j) w (omega arith)))
       (take_at x _ 3 three)
 
-  pub put_others : (i : ℕ) → (i ≡ j → ⊥) → words_of i put ≡ words_of i w
+  pub put_others : (i : ℕ) → (i ≡ j → ⊥) → name_words i put ≡ name_words i w
   put_others i d = go (dec_lt i j)
     where
-      go : Dec (i < j) → words_of i put ≡ words_of i w
+      go : Dec (i < j) → name_words i put ≡ name_words i w
       go (yes l) =
           words_front i (3 * j) put (omega (arith, put_size)) (omega arith)
-          ∙ ap (words_of i) (take_put (3 * j) (3 * j + 3 - 3 * j) w x (omega arith))
+          ∙ ap (name_words i) (take_put (3 * j) (3 * j + 3 - 3 * j) w x (omega arith))
           ∙ sym (words_front i (3 * j) w (omega arith) (omega arith))
       go (no l) =
           words_back i (3 * j + 3) put (omega arith)

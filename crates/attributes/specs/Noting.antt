@@ -32,21 +32,21 @@ abbrev pub Notes : List ℕ → Attribute → List ℕ → List ℕ → List ℕ
 Notes p a k w w₁ = (v : Held) → w ≡ held_numbers v → w₁ ≡ held_numbers (noted p a k v)
 
 -- the words of name j
-abbrev pub words_of : ℕ → List ℕ → List ℕ
-words_of j w = take 3 (drop (3 * j) w)
+abbrev pub name_words : ℕ → List ℕ → List ℕ
+name_words j w = take 3 (drop (3 * j) w)
 
 -- the words w of all names, afterwards w₁: name j's were noted, the others are as they were
 pub record NotesOne (p : List ℕ) (a : Attribute) (s es : List ℕ) (j : ℕ) (w w₁ : List ℕ) : Type 0 where
   pub size : length w₁ ≡ length w
-  pub its : Notes p a (name_at s es j) (words_of j w) (words_of j w₁)
-  pub others : (i : ℕ) → (i ≡ j → ⊥) → words_of i w₁ ≡ words_of i w
+  pub its : Notes p a (name_at s es j) (name_words j w) (name_words j w₁)
+  pub others : (i : ℕ) → (i ≡ j → ⊥) → name_words i w₁ ≡ name_words i w
 
 -- each name's were noted
 abbrev pub NotesAll : List ℕ → Attribute → List ℕ → List ℕ → List ℕ → List ℕ → Type 0
 NotesAll p a s es w w₁ = (f : List ℕ → Held) → w ≡ held_words f s es → w₁ ≡ held_words (λ k. noted p a k (f k)) s es
 
 -- the attribute's name lies in a page of n bytes, and its value in the longest page, so that its places fit a word
-pub record Placed (n : ℕ) (a : Attribute) : Type 0 where
+pub record FitsWords (n : ℕ) (a : Attribute) : Type 0 where
   pub name : a.name ≤ a.stop
   pub stop : a.stop ≤ n
   pub value : InsideAssigned page_limit a.value

@@ -23,5 +23,5 @@ pub record Slotted (s es : List ℕ) (n : ℕ) (t : List ℕ) : Type 0 where
   pub inside : (i : ℕ) → get_or t i 0 < many → get_or t i 0 ≤ n
 
 -- each name has k within: so a tag in whose opening k does not stand has none of them
-abbrev pub Alike : List ℕ → List ℕ → List ℕ → Type 0
-Alike s es k = (j : ℕ) → j < length es → Within k (name_at s es j)
+abbrev pub AllHave : List ℕ → List ℕ → List ℕ → Type 0
+AllHave s es k = (j : ℕ) → j < length es → Within k (name_at s es j)

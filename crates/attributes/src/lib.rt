@@ -11,8 +11,8 @@ ghost use Rattle.rules.specs.Lookup.{Inside, lookup, lookup_from};
 ghost use Rattle.rules.specs.Profile.{page_limit};
 ghost use Rattle.rules.specs.Refusals.{held_numbers};
 ghost use Rattle.scan.specs.Marks.{white_in};
-ghost use Rattle.attributes.specs.Noting.{Placed, held_words, Notes, NotesOne, NotesAll};
-ghost use Rattle.attributes.specs.Slots.{name_at, slot_of, many, Slotted, Alike};
+ghost use Rattle.attributes.specs.Noting.{FitsWords, held_words, Notes, NotesOne, NotesAll};
+ghost use Rattle.attributes.specs.Slots.{name_at, slot_of, many, Slotted, AllHave};
 
 use rules::{Attribute, Held};
 use scan::Marks;
@@ -39,7 +39,7 @@ pub fn write_held(words: &mut [u32], held: Held)
 // The attribute a was read: if it has the name, its value may count. Of `id` and `class` the last counts, of other names the first. That a
 // lies in the page is asked for, since it is places alone.
 fn note(words: &mut [u32], page: &[u8], a: Attribute, name: &[u8])
-    requires { (length words.old ≡ 3) × Placed (length page.now) a }
+    requires { (length words.old ≡ 3) × FitsWords (length page.now) a }
     ensures { Notes page.now a name.now words.old words.new }
 {
     if !tag::is_named(page, a, name) {
@@ -100,7 +100,7 @@ impl<'a> Names<'a> {
     // tag without these bytes need not be read.
     pub fn begun_alike(&self) -> &'a [u8]
         ensures opens { result.now ≡ take (length result.now) self.now.text.now }
-        ensures alike { Alike self.now.text.now self.now.ends.now result.now }
+        ensures alike { AllHave self.now.text.now self.now.ends.now result.now }
     {
         if self.text.len() < 2 {
             return &self.text[..0];
@@ -165,7 +165,7 @@ pub struct Slots<'a> {
 
 // Notes the attribute for name j.
 fn note_one(page: &[u8], a: Attribute, names: &Names, j: usize, out: &mut [u32])
-    requires room { (length out.old ≡ 3 * length names.now.ends.now) × Placed (length page.now) a }
+    requires room { (length out.old ≡ 3 * length names.now.ends.now) × FitsWords (length page.now) a }
     requires below { j < length names.now.ends.now }
     ensures { NotesOne page.now a names.now.text.now names.now.ends.now j out.old out.new }
 {
@@ -176,7 +176,7 @@ fn note_one(page: &[u8], a: Attribute, names: &Names, j: usize, out: &mut [u32])
 
 // Notes it for each name in turn.
 fn note_each(page: &[u8], a: Attribute, names: &Names, out: &mut [u32])
-    requires { (length out.old ≡ 3 * length names.now.ends.now) × Placed (length page.now) a }
+    requires { (length out.old ≡ 3 * length names.now.ends.now) × FitsWords (length page.now) a }
     ensures { NotesAll page.now a names.now.text.now names.now.ends.now out.old out.new }
 {
     for j in 0..names.len() {
@@ -186,7 +186,7 @@ fn note_each(page: &[u8], a: Attribute, names: &Names, out: &mut [u32])
 
 // Notes it for each name. Its slot says that it is no name's, or at most one's; or it is compared with all.
 fn note_all(slots: &Slots, page: &[u8], a: Attribute, out: &mut [u32])
-    requires { (length out.old ≡ 3 * length slots.now.names.ends.now) × Placed (length page.now) a }
+    requires { (length out.old ≡ 3 * length slots.now.names.ends.now) × FitsWords (length page.now) a }
     ensures { NotesAll page.now a slots.now.names.text.now slots.now.names.ends.now out.old out.new }
 {
     let from = a.name;
@@ -218,7 +218,7 @@ pub fn may_have_any(tag: &Tag, first: &[u8]) -> bool
 // each place fits a word; a tag alone does not say so.
 pub fn attributes(t: &Marks, slots: &Slots, tag: &Tag, first: &[u8], out: &mut [u32])
     requires inside { length tag.now.page.now ≤ page_limit }
-    requires alike { Alike slots.now.names.text.now slots.now.names.ends.now first.now }
+    requires alike { AllHave slots.now.names.text.now slots.now.names.ends.now first.now }
     requires zeros { out.old ≡ replicate (3 * length slots.now.names.ends.now) 0 }
     ensures { let held = lookup (white_in t.now) tag.now.page.now tag.now.node in
         out.new ≡ held_words held slots.now.names.text.now slots.now.names.ends.now }

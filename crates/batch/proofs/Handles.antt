@@ -1,26 +1,14 @@
 -- A list of handles, taken one by one: what a loop over it keeps is said of the handles from i on.
-use mathlib.Core.Path.{◌≡◌, refl, ap, ◌∙◌}
-use mathlib.Core.Bool.{Bool, true, false, not, ◌||◌}
-use Rattle.std.proofs.Common.{IsTrue, ◌↔◌}
-use borrow.Author.Tests.{not-false}
+use mathlib.Core.Path.{◌≡◌, ap, ◌∙◌}
 use mathlib.Core.List.{List, [], ◌∷◌, ◌++◌}
-use Prim.Native.Nat.{ℕ, zero, suc, ◌+◌, ◌*◌, ◌≤◌, ◌<◌}
+use Prim.Native.Nat.{ℕ, ◌+◌, ◌*◌, ◌≤◌, ◌<◌}
 use native.Mathlib.Numerals.{add-one}
 use native.Mathlib.Omega.{arith}
 use lib.ListN.{length, drop, get_or, length-append, drop_of_length-le}
 use lib.Seq.{drop-cons}
 use Rattle.rules.specs.Lists.{each}
 use Rattle.rules.specs.Buffers.{Wrote}
-use Rattle.rules.specs.Batch.{some}
-use Rattle.rules.specs.Refusals.{not_a_tag}
-use Rattle.rules.specs.Profile.{Settings, settings_of}
-use Rattle.rules.specs.Table.{node_at}
-use Rattle.rules.specs.Sound.{is_tag}
 use Rattle.rules.proofs.Buffers.{Left, left_room, left_more, left_none}
-use Rattle.rules.proofs.Asking.{SoundTag, sound_tag}
-use Rattle.rules.proofs.Sound.{sound_rows}
-use Rattle.batch.specs.Batch.{AllTags}
-use Rattle.batch.specs.declared.Tags.{Tags}
 
 -- a list that was written from the front on
 pub written : {d₀ s d : List ℕ} {at : ℕ} → Wrote d₀ 0 s d at → d ≡ s ++ drop (length s) d₀
@@ -57,45 +45,3 @@ pub length_each : (F : ℕ → List ℕ) (n : ℕ) → ((h : ℕ) → length (F 
 unfolding each
 length_each F n e [] = omega arith
 length_each F n e (h ∷ hs) = simp length-append (rw (e h, length_each F n e hs) (omega arith))
-
-or_none : (a b : Bool) → (a || b) ≡ false → (a ≡ false) × (b ≡ false)
-or_none true b e = absurd (let z : ◌≡◌ {A = ℕ} 0 1 = cc in omega arith)
-or_none false b e = (refl, e)
-
--- the test of all handles says whether each is a tag's
-module _ (ws : List ℕ) where
-  some_none : (hs : List ℕ) → AllTags ws hs → some (not_a_tag ws) hs ≡ false
-  unfolding some
-  some_none [] a = refl
-  some_none (h ∷ hs) a = rw (a 0 (omega arith)) (some_none hs (λ i l. a (suc i) (omega arith)))
-
-  none_each : (hs : List ℕ) → some (not_a_tag ws) hs ≡ false → AllTags ws hs
-  unfolding some
-  none_each [] e i l = absurd (omega arith)
-  none_each (h ∷ hs) e zero l = not-false (is_tag ws h) (or_none (not_a_tag ws h) (some (not_a_tag ws) hs) e).0
-  none_each (h ∷ hs) e (suc i) l = none_each hs (or_none (not_a_tag ws h) (some (not_a_tag ws) hs) e).1 i (omega arith)
-
-  pub tags_test : (hs : List ℕ) (b : Bool) → (IsTrue b ↔ AllTags ws hs) → some (not_a_tag ws) hs ≡ not b
-  tags_test hs true t = some_none hs (t.0 refl)
-  tags_test hs false t = go (some (not_a_tag ws) hs) refl
-    where
-      go : (s : Bool) → some (not_a_tag ws) hs ≡ s → s ≡ true
-      go true e = refl
-      go false e = t.1 (none_each hs e)
-
--- the handle at i is a tag's
-pub tag_at : (t : Tags) (i : ℕ) → i < length t.handles.now
-    → SoundTag (settings_of t.profile.bytes.now) t.document.page.now t.document.table.now (get_or t.handles.now i 0)
-tag_at t i l =
-    let f = settings_of t.profile.bytes.now in
-    let p = t.document.page.now in
-    let ws = t.document.table.now in
-    sound_tag f p ws (get_or t.handles.now i 0) (record { fine = ap not t.profile.fine; short = t.short; table = t.document.fits })
-    (ap not (t.each i l))
-
--- its name ends before its opening does, which lies in the page
-pub opening : {f : Settings} (p ws : List ℕ) {h : ℕ} → SoundTag f p ws h
-    → ((node_at ws h).stop < (node_at ws h).opened) × ((node_at ws h).opened ≤ length p)
-opening p ws {h} s =
-    let r = sound_rows (length p) ws s.sound_table.table h s.below in
-    let t = r.tag s.tag in (omega arith, omega (arith, r.end_len))

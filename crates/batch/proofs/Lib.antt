@@ -1,7 +1,7 @@
 pub mod Handles
 pub mod Three
-pub mod Names
+pub mod Words
 pub mod Cleared
 pub mod Fitting
-pub mod Texts
+pub mod Joined
 pub mod Skipping

@@ -19,8 +19,8 @@ use Rattle.rules.specs.declared.Node.{Node}
 use Rattle.rules.proofs.Pick.{cases}
 use Rattle.std.proofs.lemmas.Bool.{and_parts}
 use Rattle.rules.proofs.Text.{text_from, text_all, text_none, text_next}
-use Rattle.tag.specs.Tag.{text_of}
-use Rattle.batch.specs.Batch.{NoText, Passes, next_text, PassesNoText}
+use Rattle.tag.specs.Tag.{node_text}
+use Rattle.batch.specs.Skips.{NoText, Passes, next_text, PassesNoText}
 
 empty : (l : List ℕ) → length l ≡ 0 → l ≡ []
 empty [] e = refl
@@ -28,8 +28,8 @@ empty (x ∷ xs) e = absurd (omega arith)
 
 module _ (p ws : List ℕ) where
   -- a row whose text has no bytes
-  pub no_text : (k : ℕ) {n : Node} {s : List ℕ} → n ≡ node_at ws k → s ≡ text_of p n → length s ≡ 0 → text_at p ws k ≡ []
-  no_text k {n} {s} q e z = let t : text_of p n ≡ [] = sym e ∙ empty s z in rw q at t
+  pub no_text : (k : ℕ) {n : Node} {s : List ℕ} → n ≡ node_at ws k → s ≡ node_text p n → length s ≡ 0 → text_at p ws k ≡ []
+  no_text k {n} {s} q e z = let t : node_text p n ≡ [] = sym e ∙ empty s z in rw q at t
 
   -- the lowest row from `from` on that has text, as a search of the rows below `to` found it, or else `next`
   pub lowest : {from to next : ℕ} (found : Option ℕ) → from ≤ to → Passes p ws to next
@@ -83,7 +83,8 @@ module _ (p ws : List ℕ) where
       first_row q =
           sym (text_all p ws h) ∙ ap (text_from p ws h) (sym (add-one h)) ∙ same (h + 1) ∙ ap (text_from p ws h) (sym q)
 
-      pub next_row : {k r : ℕ} {t n : Node} {s : List ℕ} → t ≡ node_at ws h → k ≤ t.last → n ≡ node_at ws k → s ≡ text_of p n → r ≡ next_text skip step (k + 1)
+      pub next_row : {k r : ℕ} {t n : Node} {s : List ℕ} → t ≡ node_at ws h → k ≤ t.last → n ≡ node_at ws k
+          → s ≡ node_text p n → r ≡ next_text skip step (k + 1)
           → text_from p ws h k ≡ s ++ text_from p ws h r
       next_row {k} y l q t e =
           let last = ap (λ (n : Node). n.last) y in rw (t, q, e, ← same (k + 1), add-one) (text_next p ws h k (omega (arith, last)))

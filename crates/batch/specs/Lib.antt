@@ -1,1 +1,4 @@
 pub mod Batch
+pub mod Names
+pub mod Texts
+pub mod Skips

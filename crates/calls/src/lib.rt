@@ -3,9 +3,10 @@
 
 #![tactic(auto)]
 
-ghost use Rattle.std.specs.Prelude.{◌≡◌, ◌-◌, ◌≤◌, ◌<◌, false, length, IfOk, Ok};
+ghost use Rattle.std.specs.Prelude.{◌≡◌, ◌-◌, ◌≤◌, ◌<◌, length};
 ghost use Rattle.rules.specs.Profile.{white_of, settings_of};
-ghost use Rattle.rules.specs.Refusals.{Counts, page_too_long, asking, asking_tag, told, held_part};
+ghost use Rattle.rules.specs.Query.{among};
+ghost use Rattle.rules.specs.Refusals.{Leaves, Counts, held_part};
 ghost use Rattle.rules.specs.Lists.{from};
 ghost use Rattle.rules.specs.Sound.{count_of};
 ghost use Rattle.rules.specs.Text.{inner_text};
@@ -13,10 +14,11 @@ ghost use Rattle.rules.specs.Finds.{by_class};
 ghost use Rattle.rules.specs.Lookup.{Inside};
 ghost use Rattle.rules.specs.Answers.{range_answer, text_answer, text_buffer, attribute_answer, attribute_part, id_answer, class_answer};
 ghost use Rattle.rules.specs.Answers.{class_buffer, query_answer, query_buffer, query_below_answer, query_below_buffer};
-ghost use Rattle.calls.specs.Calls.{Filled, Selects, among};
+ghost use Rattle.calls.specs.Calls.{Selects};
 
+use checks::{Checked, check, check_tag};
 use piece::Chain;
-use profile::{Profile, SIZE};
+use profile::SIZE;
 use rules::{Held, Manner, Refusal};
 use sound::Document;
 use std::ops::Range;
@@ -24,49 +26,6 @@ use tag::Tag;
 
 // How deep `inner_text` descends by recursion before a flat walk goes on.
 const DEPTH: usize = 64;
-
-// ---- the checks that come before an answer
-
-// What a call asks: a document, and the profile that it is read by.
-#[derive(Clone, Copy)]
-pub struct Checked<'a> {
-    pub profile: Profile<'a>,
-    pub document: Document<'a>,
-    ghost short: { page_too_long (settings_of profile.bytes.now) document.page.now ≡ false },
-}
-
-// Refusals 14, 1 and 3.
-pub fn check<'a>(
-    profile: &'a [u8; SIZE],
-    page: &'a [u8],
-    table: &'a [u32],
-) -> Result<Checked<'a>, Refusal>
-    ensures answer { told result ≡ asking (settings_of profile.now) page.now table.now (Ok tt) }
-    ensures lent { IfOk result
-        (λ c. (c.profile.bytes.now ≡ profile.now) × (c.document.page.now ≡ page.now) × (c.document.table.now ≡ table.now)) }
-{
-    let profile = profile::check(profile, page)?;
-    let document = Document::new(page, table).ok_or(Refusal::TableNotSound)?;
-    Ok(Checked { profile, document })
-}
-
-// Refusals 14, 1, 3 and 4.
-fn check_tag<'a>(
-    profile: &'a [u8; SIZE],
-    page: &'a [u8],
-    table: &'a [u32],
-    h: usize,
-) -> Result<Checked<'a>, Refusal>
-    ensures answer { told result ≡ asking_tag (settings_of profile.now) page.now table.now h (Ok tt) }
-    ensures lent { IfOk result
-        (λ c. (c.profile.bytes.now ≡ profile.now) × (c.document.page.now ≡ page.now) × (c.document.table.now ≡ table.now)) }
-{
-    let c = check(profile, page, table)?;
-    if c.document.is_tag(h) {
-        return Ok(c);
-    }
-    Err(Refusal::NotATag)
-}
 
 // ---- the calls: here and below one that writes clears its buffer where it refuses, by a `match`, since `?` would leave it as it was
 
@@ -153,7 +112,7 @@ pub fn inner_text(
         let p = page.now in
         let ws = table.now in
         let b = out.old in
-        Filled (text_answer f p ws h (length b)) (text_buffer f p ws h b) result out.new }
+        Leaves (text_answer f p ws h (length b)) (text_buffer f p ws h b) result out.new }
 {
     match check_tag(profile, page, table, h) {
         Err(why) => table::refuse(out, why),
@@ -210,7 +169,7 @@ pub fn get_elements_by_class_name(
         let ws = table.now in
         let b = out.old in
         let k = class.now in
-        Filled (class_answer f p ws manner k (length b)) (class_buffer f p ws manner k b) result out.new }
+        Leaves (class_answer f p ws manner k (length b)) (class_buffer f p ws manner k b) result out.new }
 {
     match check(profile, page, table) {
         Err(why) => table::refuse(out, why),
@@ -254,7 +213,7 @@ pub fn query_selector(
         let p = page.now in
         let ws = table.now in
         let b = out.old in
-        Filled (query_answer f p ws s.now (length b)) (query_buffer f p ws s.now b) result out.new }
+        Leaves (query_answer f p ws s.now (length b)) (query_buffer f p ws s.now b) result out.new }
 {
     match check(profile, page, table) {
         Err(why) => table::refuse(out, why),
@@ -277,7 +236,7 @@ pub fn query_selector_below(
         let ws = table.now in
         let b = out.old in
         let k = s.now in
-        Filled (query_below_answer f p ws h k (length b)) (query_below_buffer f p ws h k b) result out.new }
+        Leaves (query_below_answer f p ws h k (length b)) (query_below_buffer f p ws h k b) result out.new }
 {
     match check_tag(profile, page, table, h) {
         Err(why) => table::refuse(out, why),

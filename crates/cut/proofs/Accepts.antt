@@ -1,31 +1,30 @@
 -- A page and the table that its accepted reading left: the table's tags, parents and last handles are the reading's, and no
 -- question to it is refused as 14, 1 or 3, nor as 4 where it is about a tag.
-use Rattle.std.proofs.Common.{Result}
-use Rattle.std.proofs.Common.{Ok}
+use Rattle.std.proofs.Common.{Result, Ok}
 use Prim.Native.Nat.{ℕ, ◌≤◌, ◌<◌}
 use native.Mathlib.Omega.{arith}
 use mathlib.Core.Logic.{◌↔◌}
 use mathlib.Core.Path.{◌≡◌, ap, sym, ◌∙◌}
 use mathlib.Core.List.{List}
-use lib.ListN.{length}
-use borrow.Author.Tests.{eq-eqb, lt-ltb}
+use lib.ListN.{length, get_or-eq_default}
+use borrow.Author.Tests.{eq-eqb, lt-ltb, le-ltb}
+use native.Mathlib.Decide.{dec_lt}
 use Rattle.rules.specs.declared.Node.{Node}
 use Rattle.rules.specs.declared.Refusal.{Refusal}
 use Rattle.rules.specs.Profile.{Settings}
-use Rattle.rules.specs.Reader.{node}
+use Rattle.rules.specs.Reader.{node, no_node}
 use Rattle.rules.specs.Table.{node_at}
 use Rattle.rules.specs.Sound.{count_of, last_at}
+use Rattle.rules.specs.Descends.{parents_in, Descends}
 use Rattle.rules.specs.Lookup.{lookup}
 use Rattle.rules.specs.Text.{inner_text}
 use Rattle.rules.specs.Query.{over_page, below_tag}
 use Rattle.rules.specs.Refusals.{asking, asking_tag, counted}
 use Rattle.rules.specs.Answers.{reading, selected, text_answer, attribute_answer, query_answer, query_below_answer}
 use Rattle.laws.proofs.Nodes.{kind_in}
-use Rattle.laws.proofs.Nested.{Under, child, deeper}
-use Rattle.laws.proofs.Tree.{parents, page_nested, descendants}
+use Rattle.laws.proofs.Tree.{parents, descendants}
 use Rattle.laws.proofs.Tables.{Accepted}
-use Rattle.cut.specs.Cut.{IsTag, Descends}
-use Rattle.cut.specs.Cut as D
+use Rattle.cut.specs.Cut.{IsTag}
 
 module _ {f : Settings} {p ws : List ℕ} (A : Accepted f p ws) where
   abbrev ns : List Node
@@ -62,24 +61,19 @@ module _ {f : Settings} {p ws : List ℕ} (A : Accepted f p ws) where
   below_is h s m t = asked_tag h (selected (below_tag f.white p ws s h) s m) t
 
   -- the table's parents and last handles are the reading's
-  to_under : {h d : ℕ} → Descends ws h d → (d < count_of ws) × Under (parents ns) h d
-  to_under {d = d} (D.child l e) = (l, child (sym (ap (λ (n : Node). n.parent) (A.row d (omega (arith, A.counted)))) ∙ e))
-  to_under {d = d} (D.deeper l e u) =
-      (l, deeper (sym (ap (λ (n : Node). n.parent) (A.row d (omega (arith, A.counted)))) ∙ e) (to_under u).1)
-
-  from_under : {h d : ℕ} → d < count_of ws → Under (parents ns) h d → Descends ws h d
-  from_under {d = d} l (child e) = D.child l (ap (λ (n : Node). n.parent) (A.row d (omega (arith, A.counted))) ∙ e)
-  from_under {d = d} l (deeper {m = m} e u) =
-      D.deeper l (ap (λ (n : Node). n.parent) (A.row d (omega (arith, A.counted))) ∙ e)
-      (from_under (omega (arith, A.counted, (page_nested f.white f.void p).lower d (omega (arith, A.counted)))) u)
+  parent_is : (d : ℕ) → parents_in ws d ≡ parents ns d
+  parent_is d = go (dec_lt d (count_of ws))
+    where
+      go : Dec (d < count_of ws) → parents_in ws d ≡ parents ns d
+      go (yes l) = rw (lt-ltb d (count_of ws) l) (ap (λ (n : Node). n.parent) (A.row d (omega (arith, A.counted))))
+      go (no l) =
+          let past : length ns ≤ d = omega (arith, A.counted) in
+          rw (le-ltb d (count_of ws) (omega arith)) (sym (ap (λ (n : Node). n.parent) (get_or-eq_default ns no_node {n = d} past)))
 
   pub last_is : (h : ℕ) → IsTag ws h → last_at ws h ≡ (node ns h).last
   last_is h t = ap (λ (n : Node). n.last) (tag_node_lem h t).0
 
   pub descends : (h : ℕ) → IsTag ws h → (d : ℕ) → Descends ws h d ↔ ((h < d) × (d ≤ last_at ws h))
   descends h t d =
-      let e : last_at ws h ≡ (node ns h).last = last_is h t in
-      let k : (node ns h).last < length ns = (page_nested f.white f.void p).inside h (omega (arith, A.counted, t.0)) in (
-        λ u. let r = (descendants f.white f.void p h d).0 (to_under u).1 in (r.0, omega (arith, r.1)),
-        λ r. from_under (omega (arith, A.counted, r.1)) ((descendants f.white f.void p h d).1 (r.0, omega (arith, r.1))),
-      )
+      let up : parents_in ws ≡ parents ns = λ i k. parent_is k i in
+      rw (up, last_is h t) (descendants f.white f.void p h d)

@@ -3,7 +3,7 @@
 use Rattle.std.proofs.Common.{Ok}
 use Prim.Native.Nat.{ℕ, suc, ◌-◌, ◌≤◌, ◌<◌}
 use native.Mathlib.Omega.{arith}
-use mathlib.Core.Bool.{true}
+use mathlib.Core.Bool.{Bool, true}
 use mathlib.Core.Path.{◌≡◌, refl, ap, sym, ◌∙◌}
 use mathlib.Core.List.{List}
 use lib.Dec.{ltb}
@@ -15,7 +15,7 @@ use Rattle.rules.specs.declared.Piece.{Piece}
 use Rattle.rules.specs.declared.Simple.{Simple}
 use Rattle.rules.specs.declared.Held.{Held}
 use Rattle.rules.specs.declared.Held.TheVariants.{Absent, Bare, Value}
-use Rattle.rules.specs.Profile.{Settings}
+use Rattle.rules.specs.Profile.{Settings, settings_of, tl_profile}
 use Rattle.rules.specs.Reader.{node}
 use Rattle.rules.specs.Table.{node_at}
 use Rattle.rules.specs.Sound.{count_of, last_at, tagged, is_tag}
@@ -29,7 +29,7 @@ use Rattle.laws.proofs.Nodes.{kind_in}
 use Rattle.laws.proofs.Tree.{reach_same}
 use Rattle.laws.proofs.Lockstep.{Agree, agree}
 use Rattle.laws.proofs.Tables.{Accepted, accepted}
-use Rattle.cut.specs.Cut.{IsTag, Enough, Alike, CutOff, CutTheorem}
+use Rattle.cut.specs.Cut.{IsTag, Enough, Alike, CutOff, CutUnder, CutTheorem}
 use Rattle.cut.proofs.Finds.{same_finds, and_parts}
 use Rattle.cut.proofs.Selected.{selected_alike}
 use Rattle.cut.proofs.Accepts.{tag_node_lem, node_tag, attribute_is, query_is, below_is, last_is, descends}
@@ -91,6 +91,10 @@ module _ (f : Settings) (p : List ℕ) (n : ℕ) (hn : n ≤ length p) where
       same_parent : (node_at ws h).parent ≡ (node_at vs h).parent
       same_parent = rw (row, whole_row) (G.kept h is_one).parent
 
+      same_places : ((node_at ws h).name ≡ (node_at vs h).name) × ((node_at ws h).stop ≡ (node_at vs h).stop)
+          × ((node_at ws h).opened ≡ (node_at vs h).opened)
+      same_places = let k = G.kept h is_one in rw (row, whole_row) (k.name, k.stop, k.opened)
+
       same_name : name_of q (node_at ws h) ≡ name_of p (node_at vs h)
       same_name = rw (row, whole_row) (G.name h is_one)
 
@@ -133,12 +137,16 @@ module _ (f : Settings) (p : List ℕ) (n : ℕ) (hn : n ≤ length p) where
           rw (eq-eqb (node_at ws h).kind 1 t.1, eq-eqb (node_at vs h).kind 1 one)
           (λ i. tag_fits s (same_name i) (λ k. same_answer k i) x)
 
-      same_match : (s : List ℕ) (ps : List Piece) → matches f.white q ws s ps h ≡ matches f.white p vs s ps h
+      same_match : (s : List ℕ) (ps : List Piece) → matches f.white q s ps (node_at ws h) ≡ matches f.white p s ps (node_at vs h)
       same_match s ps = λ i. meaning (λ x. same_fits s x i) ps
+
+    -- row h of a table matches
+    abbrev fits : List ℕ → List ℕ → List ℕ → List Piece → ℕ → Bool
+    fits p ws s ps h = matches f.white p s ps (node_at ws h)
 
     over_page_lem : (s : List ℕ) (ps : List Piece) → only (is_tag ws) (over_page f.white q ws s ps) ≡ only (is_tag ws) (over_page f.white p vs s ps)
     over_page_lem s ps =
-        same_finds (is_tag ws) (matches f.white q ws s ps) (matches f.white p vs s ps) 0 (count_of ws) (count_of vs)
+        same_finds (is_tag ws) (fits q ws s ps) (fits p vs s ps) 0 (count_of ws) (count_of vs)
         (λ h e. same_match h (is_tag_lem ws h e) s ps)
         (λ h e l b. omega (arith, (in_whole h (is_tag_lem ws h e)).0.0))
         (λ h e l b. omega (arith, (is_tag_lem ws h e).0))
@@ -148,7 +156,7 @@ module _ (f : Settings) (p : List ℕ) (n : ℕ) (hn : n ≤ length p) where
     below_tag_lem h t s ps =
         let a : last_at ws h ≡ (node first h).last = last_is A h t in
         let b : last_at vs h ≡ (node all h).last = last_is B h (in_whole h t).0 in
-        same_finds (is_tag ws) (matches f.white q ws s ps) (matches f.white p vs s ps) (suc h) (last_at ws h - h) (last_at vs h - h)
+        same_finds (is_tag ws) (fits q ws s ps) (fits p vs s ps) (suc h) (last_at ws h - h) (last_at vs h - h)
         (λ d e. same_match d (is_tag_lem ws d e) s ps)
         (λ d e l c. omega (arith, reach_kept h d (tag_node_lem A d (is_tag_lem ws d e)).1 l (omega arith)))
         (λ d e l c. omega (arith, reach_found h d (tag_node_lem A d (is_tag_lem ws d e)).1 l (omega arith)))
@@ -179,6 +187,7 @@ module _ (f : Settings) (p : List ℕ) (n : ℕ) (hn : n ≤ length p) where
           start = same_start;
           name = same_name;
           parent = same_parent;
+          places = same_places;
           attribute = same_attribute;
           value = same_value;
           query = same_query;
@@ -190,3 +199,7 @@ module _ (f : Settings) (p : List ℕ) (n : ℕ) (hn : n ≤ length p) where
 -- the theorem
 pub cut_off : CutTheorem
 cut_off f p n hn t u k m a b = all_clauses f p n hn (accepted f (take n p) t k a) (accepted f p u m b)
+
+-- under the Rust's profile
+pub cut_off_tl : CutUnder (settings_of tl_profile)
+cut_off_tl = cut_off (settings_of tl_profile)

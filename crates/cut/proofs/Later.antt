@@ -55,7 +55,7 @@ module _ (white : ℕ → Bool) (void : List ℕ → Bool) (p : List ℕ) where
   snoc_leaf ns x h l = get_or-append ns (x ∷ []) no_node h l
 
   close_leaf : (r : Reading) (a e n b : ℕ) (hs : List ℕ) → Tags r.nodes b hs → (h : ℕ) → ((node r.nodes h).kind ≡ 1 → ⊥)
-      → node (close_into void p r a e n hs).nodes h ≡ node r.nodes h
+      → node (close_into p r a e n hs).nodes h ≡ node r.nodes h
   unfolding close_into
   close_leaf r a e n b [] T h k = refl
   close_leaf r a e n b (i ∷ hs) T h k =
@@ -113,7 +113,7 @@ module _ (white : ℕ → Bool) (void : List ℕ → Bool) (p : List ℕ) where
         snoc_all (λ h t. c ≤ h → h < suc (length r.nodes) → t.end ≤ n → (h ≡ c) × (t.kind ≡ 3)) r.nodes x
         (λ h k i j. L.nodes h i k) (λ i j. new) (λ h k i j. absurd (omega arith)) h a (omega (arith, length-append r.nodes (x ∷ [])))
 
-    close_late : (r : Reading) (a e x : ℕ) (hs : List ℕ) → n < x → Late r → EndLate (close_into void p r a e x hs).nodes
+    close_late : (r : Reading) (a e x : ℕ) (hs : List ℕ) → n < x → Late r → EndLate (close_into p r a e x hs).nodes
     unfolding close_into
     close_late r a e x [] l L = L.nodes
     close_late r a e x (i ∷ hs) l L =

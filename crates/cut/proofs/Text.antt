@@ -19,8 +19,9 @@ use Rattle.rules.specs.Answers.{reading, text_answer, text_buffer}
 use Rattle.rules.proofs.All.{all_from, each_same}
 use Rattle.laws.proofs.Tree.{page_nested}
 use Rattle.laws.proofs.Tables.{Accepted, accepted}
-use Rattle.cut.specs.Cut.{IsTag, Descends, found}
-use Rattle.cut.specs.Text.{LastBelow, Room, given, Gives, TextCut, TextPrefix}
+use Rattle.rules.specs.Descends.{Descends}
+use Rattle.cut.specs.Cut.{IsTag, found}
+use Rattle.cut.specs.Text.{LastBelow, TextRoom, given, Gives, TextCut, TextPrefix}
 use Rattle.cut.proofs.Selected.{fits_found}
 use Rattle.cut.proofs.Accepts.{tag_node_lem, text_is, last_is, descends}
 use Rattle.cut.proofs.TextNodes.{node_text, nodes_text, text_prefix, text_same}
@@ -44,7 +45,7 @@ module _ {f : Settings} {p ws : List ℕ} (A : Accepted f p ws) (h : ℕ) (t : I
       (λ d a b. let e : node_at ws d ≡ node ns d = A.row d (omega (arith, last_in)) in rw e)))
 
   -- the call gives it, if it has room
-  gives_text : (out : List ℕ) → Room f p ws h out → Gives f p ws h out
+  gives_text : (out : List ℕ) → TextRoom f p ws h out → Gives f p ws h out
   unfolding text_buffer
   gives_text out e =
       let x : List ℕ = inner_text p ws h in
@@ -66,7 +67,7 @@ module _ {f : Settings} {p ws : List ℕ} (A : Accepted f p ws) (h : ℕ) (t : I
 
 module _ (f : Settings) (p : List ℕ) (n : ℕ) (hn : n ≤ length p) {ws vs : List ℕ}
     (A : Accepted f (take n p) ws) (B : Accepted f p vs) (h : ℕ) (i : IsTag ws h) (j : IsTag vs h)
-    (out out' : List ℕ) (d : Room f (take n p) ws h out) (g : Room f p vs h out') where
+    (out out' : List ℕ) (d : TextRoom f (take n p) ws h out) (g : TextRoom f p vs h out') where
   one : (node (reading f (take n p)).nodes h).kind ≡ 1
   one = (tag_node_lem A h i).1
 

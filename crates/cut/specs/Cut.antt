@@ -1,9 +1,10 @@
 -- A page cut off: what the public calls answer for a page's first n bytes, and for the whole page.
-use Rattle.std.specs.Prelude.{ℕ, suc, ◌≤◌, ◌<◌, ◌↔◌, ◌≡◌, List, [], length, take, Result, Ok, Err}
+use Rattle.std.specs.Prelude.{ℕ, ◌≤◌, ◌<◌, ◌↔◌, ◌≡◌, List, [], length, take, Result, Ok, Err}
 use Rattle.rules.specs.Lists.{only}
 use Rattle.rules.specs.Profile.{Settings}
 use Rattle.rules.specs.Table.{node_at}
 use Rattle.rules.specs.Sound.{count_of, last_at, is_tag}
+use Rattle.rules.specs.Descends.{Descends}
 use Rattle.rules.specs.Query.{name_of}
 use Rattle.rules.specs.Answers.{parse_answer, parse_table, attribute_answer, attribute_part, query_answer, query_buffer, query_below_answer, query_below_buffer}
 use Rattle.rules.specs.declared.Refusal.{Refusal}
@@ -14,11 +15,6 @@ use Rattle.rules.specs.declared.Refusal.TheVariants.{BufferTooShort}
 -- row h of the table is a tag
 abbrev pub IsTag : List ℕ → ℕ → Type 0
 IsTag ws h = (h < count_of ws) × ((node_at ws h).kind ≡ 1)
-
--- row d reaches h by going from parent to parent
-pub data Descends (ws : List ℕ) (h : ℕ) : ℕ → Type 0 where
-  child : {d : ℕ} → d < count_of ws → (node_at ws d).parent ≡ suc h → Descends ws h d
-  deeper : {d m : ℕ} → d < count_of ws → (node_at ws d).parent ≡ suc m → Descends ws h m → Descends ws h d
 
 -- the lent words had room for all finds
 abbrev pub Enough : Result ℕ Refusal → Type 0
@@ -41,10 +37,12 @@ pub record Alike (ws : List ℕ) (a : Result ℕ Refusal) (out : List ℕ) (b : 
 pub record CutOff (f : Settings) (n : ℕ) (q ws p vs : List ℕ) : Type 0 where
   -- 1. the beginning's tags are the whole page's whose opening `>` lies before the cut: word 5 is the place after it
   pub tags : (h : ℕ) → IsTag ws h ↔ (IsTag vs h × ((node_at vs h).opened ≤ n))
-  -- each with the same start, name and parent
+  -- each with the same start, name and parent, and the same words 3 to 5: its name's places and the one after its opening
   pub start : (h : ℕ) → IsTag ws h → (node_at ws h).start ≡ (node_at vs h).start
   pub name : (h : ℕ) → IsTag ws h → name_of q (node_at ws h) ≡ name_of p (node_at vs h)
   pub parent : (h : ℕ) → IsTag ws h → (node_at ws h).parent ≡ (node_at vs h).parent
+  pub places : (h : ℕ) → IsTag ws h
+      → ((node_at ws h).name ≡ (node_at vs h).name) × ((node_at ws h).stop ≡ (node_at vs h).stop) × ((node_at ws h).opened ≡ (node_at vs h).opened)
   -- 2. the same answer for every attribute name, and the same value bytes
   pub attribute : (h : ℕ) → IsTag ws h → (k : List ℕ) → attribute_answer f q ws h k ≡ attribute_answer f p vs h k
   pub value : (h : ℕ) → IsTag ws h → (k : List ℕ) → attribute_part f q ws h k ≡ attribute_part f p vs h k
@@ -60,9 +58,13 @@ pub record CutOff (f : Settings) (n : ℕ) (q ws p vs : List ℕ) : Type 0 where
   pub descendants : (h : ℕ) → IsTag ws h → (d : ℕ) → Descends ws h d ↔ ((h < d) × (d ≤ last_at ws h))
   pub descendants_whole : (h : ℕ) → IsTag vs h → (d : ℕ) → Descends vs h d ↔ ((h < d) × (d ≤ last_at vs h))
 
--- The theorem: for every page of bytes, every cut, whatever a profile sets and any two tables on which both readings are accepted.
-abbrev pub CutTheorem : Type 0
-CutTheorem =
-    (f : Settings) (p : List ℕ) (n : ℕ) → n ≤ length p
+-- For every page of bytes, every cut and any two tables on which both readings are accepted, under what one profile sets.
+abbrev pub CutUnder : Settings → Type 0
+CutUnder f =
+    (p : List ℕ) (n : ℕ) → n ≤ length p
     → (t u : List ℕ) (k m : ℕ) → parse_answer f (take n p) (length t) ≡ Ok k → parse_answer f p (length u) ≡ Ok m
     → CutOff f n (take n p) (parse_table f (take n p) t) p (parse_table f p u)
+
+-- The theorem: whatever a profile sets.
+abbrev pub CutTheorem : Type 0
+CutTheorem = (f : Settings) → CutUnder f

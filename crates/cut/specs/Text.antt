@@ -2,9 +2,10 @@
 use Rattle.std.specs.Prelude.{ℕ, ◌≤◌, ◌≡◌, List, ◌++◌, length, take, Ok}
 use Rattle.rules.specs.Profile.{Settings}
 use Rattle.rules.specs.Table.{node_at}
+use Rattle.rules.specs.Descends.{Descends}
 use Rattle.rules.specs.Text.{inner_text}
 use Rattle.rules.specs.Answers.{parse_answer, parse_table, text_answer, text_buffer}
-use Rattle.cut.specs.Cut.{IsTag, Descends, Enough, found}
+use Rattle.cut.specs.Cut.{IsTag, Enough, found}
 
 -- ---- the words of the statement
 
@@ -21,8 +22,8 @@ pub record LastBelow (ws : List ℕ) (h d : ℕ) : Type 0 where
 -- the call for the text of row h, with the bytes out lent to it
 module _ (f : Settings) (p ws : List ℕ) (h : ℕ) (out : List ℕ) where
   -- they had room for the text
-  abbrev pub Room : Type 0
-  Room = Enough (text_answer f p ws h (length out))
+  abbrev pub TextRoom : Type 0
+  TextRoom = Enough (text_answer f p ws h (length out))
 
   -- the text that it gave
   abbrev pub given : List ℕ
@@ -53,6 +54,6 @@ TextPrefix =
     (f : Settings) (p : List ℕ) (n : ℕ) → n ≤ length p
     → (t u : List ℕ) (k m : ℕ) → parse_answer f (take n p) (length t) ≡ Ok k → parse_answer f p (length u) ≡ Ok m
     → (h : ℕ) → IsTag (parse_table f (take n p) t) h
-    → (out out' : List ℕ) → Room f (take n p) (parse_table f (take n p) t) h out
-    → Room f p (parse_table f p u) h out'
+    → (out out' : List ℕ) → TextRoom f (take n p) (parse_table f (take n p) t) h out
+    → TextRoom f p (parse_table f p u) h out'
     → TextCut f n (take n p) (parse_table f (take n p) t) p (parse_table f p u) h out out'

@@ -1,3 +1,5 @@
+pub mod Order
+pub mod Rounds
 pub mod Rows
 pub mod Columns
 pub mod Counting

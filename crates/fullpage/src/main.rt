@@ -6,7 +6,7 @@
 ghost use Rattle.std.specs.Prelude.{◌≡◌, ◌≤◌, length};
 ghost use Rattle.rules.specs.Profile.{page_limit};
 ghost use Rattle.rules.specs.Buffers.{Wrote};
-ghost use Rattle.fullpage.specs.Asked.{ending, asked, answer_text};
+ghost use Rattle.fullpage.specs.Asked.{input_ends, asked_length, page_text};
 
 use rules::PAGE_LIMIT;
 use std::io;
@@ -14,15 +14,15 @@ use std::io::Print;
 
 // The input ends at the place, or after a line feed there.
 fn ends(s: &[u8], at: usize) -> bool
-    ensures { result ≡ ending s.now at }
+    ensures { result ≡ input_ends s.now at }
 {
     matches!(s.get(at..), Some([] | [b'\n']))
 }
 
 // How many bytes of a page the input asks for.
-#[tactic(auto, unfolding(crate::specs::Asked::asked))]
+#[tactic(auto, unfolding(crate::specs::Asked::asked_length))]
 fn asked(s: &[u8]) -> Option<usize>
-    ensures { result ≡ asked s.now }
+    ensures { result ≡ asked_length s.now }
 {
     let (n, end) = decimal::number_at(s, 0)?;
     let n = n as usize;
@@ -32,7 +32,7 @@ fn asked(s: &[u8]) -> Option<usize>
 // Writes what the input asks for, and answers how many bytes that are.
 fn answer(s: &[u8], out: &mut [u8]) -> usize
     requires { page_limit ≤ length out.old }
-    ensures { Wrote out.old 0 (answer_text (asked s.now)) out.new result }
+    ensures { Wrote out.old 0 (page_text (asked_length s.now)) out.new result }
 {
     let Some(n) = asked(s) else {
         let text = b"refused";

@@ -16,7 +16,7 @@ use Rattle.rules.specs.Scan.{pick, span, skip, here, pass, part}
 use Rattle.rules.specs.Attributes.{attributes_end}
 use Rattle.rules.specs.declared.Item.{Item}
 use Rattle.rules.specs.declared.Item.TheVariants.{Text, Close, Comment, Doctype, Tag, Nothing}
-use Rattle.rules.specs.Lexer.{next, is_tag, comment_end, comment_to, item_at, markup, closing, tag, tag_from, tag_to, bang, declaration_from}
+use Rattle.rules.specs.Lexer.{next, is_tag_item, comment_end, comment_to, item_at, markup, closing, tag, tag_from, tag_to, bang, declaration_from}
 use Rattle.rules.specs.Lexer.{doctype_from, same_lower, doctype_name}
 use Rattle.laws.proofs.Cut.{Scans, skip_scans, pass_scans, then_scans, cut_at, here_cut, here_end, length_cut, end_cut, end_grows, drop_take}
 use Rattle.rules.proofs.Pick.{cases}
@@ -26,12 +26,12 @@ use Rattle.laws.proofs.CutItem.{Ends, comment_end_lem, comment_cut, below}
 -- An item i of a page and what stands in its place in the first n bytes: the same, or no tag, up to the cut.
 pub data Cut (n : ℕ) (i j : Item) : Type 0 where
   whole : j ≡ i → next i ≤ n → Cut n i j
-  past : n < next i → next j ≡ n → is_tag j ≡ false → Cut n i j
+  past : n < next i → next j ≡ n → is_tag_item j ≡ false → Cut n i j
 
 pub record Items (F : List ℕ → ℕ → Item) : Type 0 where
   pub grows : (p : List ℕ) (at : ℕ) → at ≤ length p → at ≤ next (F p at)
   pub within : (p : List ℕ) (at : ℕ) → at ≤ length p → next (F p at) ≤ length p
-  pub stop : (p : List ℕ) → is_tag (F p (length p)) ≡ false
+  pub stop : (p : List ℕ) → is_tag_item (F p (length p)) ≡ false
   pub cut : (p : List ℕ) (n at : ℕ) → n < length p → at ≤ n → Cut n (F p at) (F (take n p) at)
 
 module _ {F : List ℕ → ℕ → Item} (S : Items F) where
@@ -197,8 +197,8 @@ module _ (white : ℕ → Bool) where
       (λ t. (doctype_end.grows p w h, doctype_end.within p w h))
       (λ t. (omega arith, h))
 
-  declared_plain : (p : List ℕ) (x e w : ℕ) → is_tag (declaration_from white p x e w) ≡ false
-  declared_plain p x e w = cases (λ i. is_tag i ≡ false) (same_lower (part p x e) doctype_name) (λ t. refl) (λ t. refl)
+  declared_plain : (p : List ℕ) (x e w : ℕ) → is_tag_item (declaration_from white p x e w) ≡ false
+  declared_plain p x e w = cases (λ i. is_tag_item i ≡ false) (same_lower (part p x e) doctype_name) (λ t. refl) (λ t. refl)
 
   name_white : Scans (λ p x. skip white p (skip is_ident p x))
   name_white = then_scans (skip_scans is_ident) (skip_scans white)
@@ -310,8 +310,8 @@ commented : (p : List ℕ) (s x e : ℕ) → Ends p x e → ((x + 3 ≤ next (co
 commented p s x e (inl z) = rw z (inr refl, omega arith)
 commented p s x e (inr l) = rw (ne_eqb e 0 (λ z. omega (arith, l.0))) (inl l.0, l.1)
 
-comment_plain : (p : List ℕ) (s e : ℕ) → is_tag (comment_to p s e) ≡ false
-comment_plain p s e = cases (λ i. is_tag i ≡ false) (eqb e 0) (λ t. refl) (λ t. refl)
+comment_plain : (p : List ℕ) (s e : ℕ) → is_tag_item (comment_to p s e) ≡ false
+comment_plain p s e = cases (λ i. is_tag_item i ≡ false) (eqb e 0) (λ t. refl) (λ t. refl)
 
 pub comment_items : (s : ℕ) → Items (comment s)
 comment_items s =
@@ -379,7 +379,7 @@ module _ (white : ℕ → Bool) where
             (λ t. (declaration_items white).grows p x h);
         within = λ p x h. cases (λ i. next i ≤ length p) (here (is 45) p x && here (is 45) p (suc x)) (λ t. (comment_items s).within p x h)
             (λ t. (declaration_items white).within p x h);
-        stop = λ p. cases (λ i. is_tag i ≡ false) (here (is 45) p (length p) && here (is 45) p (suc (length p))) (λ t. (comment_items s).stop p)
+        stop = λ p. cases (λ i. is_tag_item i ≡ false) (here (is 45) p (length p) && here (is 45) p (suc (length p))) (λ t. (comment_items s).stop p)
             (λ t. (declaration_items white).stop p);
         cut = λ p n x hn hx. bang_cut s p n x hn hx (dec_lt (suc x) n);
       }

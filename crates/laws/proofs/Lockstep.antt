@@ -12,7 +12,7 @@ use borrow.Author.Tests.{lt-ltb, le-ltb, ltb-true}
 use Rattle.rules.specs.Scan.{part, same}
 use Rattle.rules.specs.declared.Item.{Item}
 use Rattle.rules.specs.declared.Item.TheVariants.{Text, Close, Comment, Doctype, Tag, Nothing}
-use Rattle.rules.specs.Lexer.{next, is_tag, item_at}
+use Rattle.rules.specs.Lexer.{next, is_tag_item, item_at}
 use Rattle.rules.specs.declared.Node.{Node}
 use Rattle.rules.specs.Reader.{node, Reading, leaf, tag_node, closed, ended_by, close_into, put, step, steps, begin, read}
 use Rattle.laws.proofs.Cut.{length_cut}
@@ -22,7 +22,7 @@ use Rattle.laws.proofs.Nodes.{SameTag, same_closed, same_trans, same_sym, snoc_a
 
 module _ (white : ℕ → Bool) (void : List ℕ → Bool) where
   -- an item moves the place to its end
-  close_at : (p : List ℕ) (r : Reading) (a e n : ℕ) (hs : List ℕ) → (close_into void p r a e n hs).at ≡ n
+  close_at : (p : List ℕ) (r : Reading) (a e n : ℕ) (hs : List ℕ) → (close_into p r a e n hs).at ≡ n
   unfolding close_into
   close_at p r a e n [] = refl
   close_at p r a e n (h ∷ hs) =
@@ -38,7 +38,7 @@ module _ (white : ℕ → Bool) (void : List ℕ → Bool) where
   put_at_lem p r (Nothing n) = refl
 
   -- it adds at most one node, which is a tag only where the item is one
-  close_ext : (b : ℕ) (p : List ℕ) (r : Reading) (a e n : ℕ) (hs : List ℕ) → Ext b r.nodes (close_into void p r a e n hs).nodes
+  close_ext : (b : ℕ) (p : List ℕ) (r : Reading) (a e n : ℕ) (hs : List ℕ) → Ext b r.nodes (close_into p r a e n hs).nodes
   unfolding close_into
   close_ext b p r a e n [] = ext_refl b r.nodes
   close_ext b p r a e n (h ∷ hs) =
@@ -48,7 +48,7 @@ module _ (white : ℕ → Bool) (void : List ℕ → Bool) where
       ext_set b r.nodes h (closed t n l (ended_by e n)) (same_closed t n l (ended_by e n)))
       (λ t. ext_refl b r.nodes)
 
-  pub put_ext : (b : ℕ) (p : List ℕ) (r : Reading) (i : Item) → (is_tag i ≡ true → b < next i) → Ext b r.nodes (put void p r i).nodes
+  pub put_ext : (b : ℕ) (p : List ℕ) (r : Reading) (i : Item) → (is_tag_item i ≡ true → b < next i) → Ext b r.nodes (put void p r i).nodes
   unfolding put
   put_ext b p r (Text e) c = ext_snoc b r.nodes (leaf r 2 r.at e) (λ z. let o : ◌≡◌ {A = ℕ} 2 1 = z in absurd (omega arith))
   put_ext b p r (Close a e n) c = close_ext b p r a e n r.opens
@@ -64,7 +64,7 @@ module _ (white : ℕ → Bool) (void : List ℕ → Bool) where
   abbrev pub Good : Reading → Type 0
   Good r = (h : ℕ) → Before r.at (node r.nodes h)
 
-  close_good : (p : List ℕ) (r : Reading) (a e n : ℕ) (hs : List ℕ) → Good r → r.at ≤ n → Good (close_into void p r a e n hs)
+  close_good : (p : List ℕ) (r : Reading) (a e n : ℕ) (hs : List ℕ) → Good r → r.at ≤ n → Good (close_into p r a e n hs)
   unfolding close_into
   close_good p r a e n [] g l = λ h. omega (arith, g h)
   close_good p r a e n (h ∷ hs) g l =
@@ -85,7 +85,7 @@ module _ (white : ℕ → Bool) (void : List ℕ → Bool) where
 
   -- an item within the first n bytes does the same to both
   close_cut : (p : List ℕ) (n : ℕ) (r : Reading) (a e x : ℕ) (hs : List ℕ) → Good r → r.at ≤ n → e ≤ n
-      → close_into void (take n p) r a e x hs ≡ close_into void p r a e x hs
+      → close_into (take n p) r a e x hs ≡ close_into p r a e x hs
   unfolding close_into
   close_cut p n r a e x [] g l m = refl
   close_cut p n r a e x (h ∷ hs) g l m =
@@ -129,7 +129,7 @@ module _ (white : ℕ → Bool) (void : List ℕ → Bool) (p : List ℕ) (n : �
   -- cut, or one item more takes it there, which is no tag, where the whole page's item goes beyond.
   pub data Ending (r s : Reading) : Type 0 where
     there : r.at ≡ n → s ≡ r → Ending r s
-    short : r.at < n → n < next (item_at white p r.at) → next (item_at white (take n p) r.at) ≡ n → is_tag (item_at white (take n p) r.at) ≡ false
+    short : r.at < n → n < next (item_at white p r.at) → next (item_at white (take n p) r.at) ≡ n → is_tag_item (item_at white (take n p) r.at) ≡ false
         → s ≡ put void (take n p) r (item_at white (take n p) r.at) → Ending r s
 
   -- From r on the beginning's reading comes to s and the whole page's to t. They make the same steps up to a common reading.

@@ -22,7 +22,7 @@ use Rattle.laws.proofs.Nested.{Nested}
 use Rattle.laws.proofs.Tree.{parents, page_nested}
 use Rattle.laws.proofs.Lockstep.{put_at_lem}
 
-pub record Sound (size : ℕ) (ns : List Node) : Type 0 where
+pub record SoundNodes (size : ℕ) (ns : List Node) : Type 0 where
   pub nodes : (h : ℕ) → h < length ns → SoundNode size h (node ns h)
   pub nested : Nested (length ns) (parents ns) (λ d. (node ns d).last)
 
@@ -144,7 +144,7 @@ module _ (white : ℕ → Bool) (void : List ℕ → Bool) (p : List ℕ) where
             };
       }
 
-  close_fine : (r : Reading) (a e n : ℕ) (hs : List ℕ) → r.opens ≡ hs → r.at < n → Fine r → Fine (close_into void p r a e n hs)
+  close_fine : (r : Reading) (a e n : ℕ) (hs : List ℕ) → r.opens ≡ hs → r.at < n → Fine r → Fine (close_into p r a e n hs)
   unfolding close_into
   close_fine r a e n [] q l F = record { nodes = λ h b. later (omega arith) (F.nodes h b); tags = F.tags }
   close_fine r a e n (h ∷ hs) q l F =
@@ -246,7 +246,7 @@ last_sound_lem l size b (k ∷ hs) ns T S =
     all = set_all (λ h t. h < length ns → SoundNode size h t) ns k y S (λ b c. lasting l T.1 T.2 (S k b))
 
 -- the nodes of a page are sound
-pub page_sound : (white : ℕ → Bool) (void : List ℕ → Bool) (p : List ℕ) → Sound (length p) (read white void p).nodes
+pub page_sound : (white : ℕ → Bool) (void : List ℕ → Bool) (p : List ℕ) → SoundNodes (length p) (read white void p).nodes
 page_sound white void p =
     let s : Reading = steps white void p (length p) begin in
     let f : Fine s × (s.at ≤ length p) = steps_fine white void p (length p) begin (omega arith) begin_fine in

@@ -37,7 +37,7 @@ adds_few (Tag a e n s) = omega arith
 adds_few (Nothing n) = omega arith
 
 module _ (void : List ℕ → Bool) (p : List ℕ) where
-  close_count : (r : Reading) (a e n : ℕ) (hs : List ℕ) → length (close_into void p r a e n hs).nodes ≡ length r.nodes
+  close_count : (r : Reading) (a e n : ℕ) (hs : List ℕ) → length (close_into p r a e n hs).nodes ≡ length r.nodes
   unfolding close_into
   close_count r a e n [] = refl
   close_count r a e n (h ∷ hs) =

@@ -24,7 +24,7 @@ use Rattle.rules.specs.declared.Node.{Node}
 use Rattle.rules.proofs.Table.{filled_size, filled_node}
 use Rattle.rules.proofs.Sound.{reaching_pass, reaching_here, all_from, row_sound_from, sound_is}
 use Rattle.rules.proofs.Pick.{cases}
-use Rattle.laws.proofs.Soundness.{Sound, page_sound}
+use Rattle.laws.proofs.Soundness.{SoundNodes, page_sound}
 use Rattle.rules.specs.declared.Refusal.{Refusal}
 
 -- the greatest handle below k that reaches h, where it is known: q - 1, or none
@@ -47,7 +47,7 @@ module _ (white : ℕ → Bool) (void : List ℕ → Bool) (p : List ℕ) where
   put_known r (Text e) k = k
   put_known r (Close a e n) k = go r.opens
     where
-      go : (hs : List ℕ) → Known (close_into void p r a e n hs).version
+      go : (hs : List ℕ) → Known (close_into p r a e n hs).version
       go [] = k
       go (h ∷ hs) = cases (λ (s : Reading). Known s.version) (same (part p (node r.nodes h).name (node r.nodes h).stop) (part p a e)) (λ t. k) (λ t. k)
   put_known r (Comment a e n) k = k
@@ -64,7 +64,7 @@ module _ (white : ℕ → Bool) (void : List ℕ → Bool) (p : List ℕ) where
       (λ t. steps_known k (put void p r (item_at white p r.at)) (put_known r (item_at white p r.at) v)) (λ t. v)
 
 -- a table with sound nodes
-module _ (len v : ℕ) {ws t : List ℕ} {ns : List Node} (S : Sound len ns) (F : Filled ws t (head_of (length ns) v len) ns) where
+module _ (len v : ℕ) {ws t : List ℕ} {ns : List Node} (S : SoundNodes len ns) (F : Filled ws t (head_of (length ns) v len) ns) where
   counts : count_of ws ≡ length ns
   unfolding filled
   counts = ap (λ (w : List ℕ). get_or w 0 0) F.words

@@ -19,7 +19,8 @@ use Rattle.rules.specs.Reader.{node, Reading, no_node, parent_of, leaf, tag_node
 use Rattle.rules.specs.Reader.{with_last, read}
 use Rattle.rules.proofs.Pick.{cases}
 use Rattle.laws.proofs.Nodes.{set_all, ext_last}
-use Rattle.laws.proofs.Nested.{Nested, Under, child, deeper, under_same, nested_cong, nested_add, range_under, under_range}
+use Rattle.rules.specs.Descends.{Reaches, child, deeper}
+use Rattle.laws.proofs.Nested.{Nested, reaches_same, nested_cong, nested_add, range_reaches, reaches_range}
 
 unfoldable pub mem : ℕ → List ℕ → Bool
 mem g [] = false
@@ -190,7 +191,7 @@ module _ (white : ℕ → Bool) (void : List ℕ → Bool) (p : List ℕ) where
   abbrev Shaped : Reading → Type 0
   Shaped r = Shape r.nodes r.opens
 
-  close_shape : (r : Reading) (a e n : ℕ) (hs : List ℕ) → r.opens ≡ hs → Shaped r → Shaped (close_into void p r a e n hs)
+  close_shape : (r : Reading) (a e n : ℕ) (hs : List ℕ) → r.opens ≡ hs → Shaped r → Shaped (close_into p r a e n hs)
   unfolding close_into
   close_shape r a e n [] q S = S
   close_shape r a e n (h ∷ hs) q S =
@@ -236,16 +237,17 @@ module _ (white : ℕ → Bool) (void : List ℕ → Bool) (p : List ℕ) where
       go (yes l) = l
       go (no l) = absurd (omega (arith, e, ap (λ (t : Node). t.parent) (get_or-eq_default (read white void p).nodes no_node {n = d} (omega arith))))
 
-  under_in : {h d : ℕ} → Under (parents (read white void p).nodes) h d → d < length (read white void p).nodes
-  under_in {h} {d} (child e) = has_parent d h e
-  under_in {h} {d} (deeper {m = m} e u) = has_parent d m e
+  reaches_in : {h d : ℕ} → Reaches (parents (read white void p).nodes) h d → d < length (read white void p).nodes
+  reaches_in {h} {d} (child e) = has_parent d h e
+  reaches_in {h} {d} (deeper {m = m} e u) = has_parent d m e
 
   -- a node's descendants are the handles after its own up to its last
-  pub descendants : (h d : ℕ) → Under (parents (read white void p).nodes) h d ↔ ((h < d) × (d ≤ (node (read white void p).nodes h).last))
-  descendants h d = (λ u. under_range page_nested (under_in u) u, λ r. go r (dec_lt h (length (read white void p).nodes)))
+  pub descendants : (h d : ℕ) → Reaches (parents (read white void p).nodes) h d ↔ ((h < d) × (d ≤ (node (read white void p).nodes h).last))
+  descendants h d = (λ u. reaches_range page_nested (reaches_in u) u, λ r. go r (dec_lt h (length (read white void p).nodes)))
     where
-      go : (h < d) × (d ≤ (node (read white void p).nodes h).last) → Dec (h < length (read white void p).nodes) → Under (parents (read white void p).nodes) h d
-      go r (yes l) = range_under page_nested d d h (omega arith) (omega (arith, r.1, page_nested.inside h l)) r.0 r.1
+      go : (h < d) × (d ≤ (node (read white void p).nodes h).last) → Dec (h < length (read white void p).nodes)
+          → Reaches (parents (read white void p).nodes) h d
+      go r (yes l) = range_reaches page_nested d d h (omega arith) (omega (arith, r.1, page_nested.inside h l)) r.0 r.1
       go r (no l) =
           let z : d ≤ 0 = rw (get_or-eq_default (read white void p).nodes no_node {n = h} (omega arith)) at r.1 in
           absurd (omega (arith, r.0))
@@ -255,4 +257,4 @@ pub reach_same : (white : ℕ → Bool) (void : List ℕ → Bool) (p q : List �
     → ((m : ℕ) → m ≤ d → parents (read white void p).nodes m ≡ parents (read white void q).nodes m)
     → d ≤ (node (read white void p).nodes h).last → d ≤ (node (read white void q).nodes h).last
 reach_same white void p q h d l b same r =
-    let u = (descendants white void p h d).1 (l, r) in ((descendants white void q h d).0 (under_same (page_nested white void p) b same u)).1
+    let u = (descendants white void p h d).1 (l, r) in ((descendants white void q h d).0 (reaches_same (page_nested white void p) b same u)).1

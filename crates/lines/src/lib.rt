@@ -5,8 +5,7 @@
 ghost use Rattle.std.specs.Prelude.{◌≡◌, true, [], ◌∷◌, ℕ, length, flat_map, Ok};
 ghost use Rattle.rules.specs.Sound.{sound};
 ghost use Rattle.rules.specs.Refusals.{Counts, number_of};
-ghost use Rattle.lines.specs.Lines.{field, kind_name, parent_name, tag_name, NameWithin};
-ghost use Rattle.lines.specs.Lines.{node_line, head_line, listing_text, refused_text, answer_text};
+ghost use Rattle.lines.specs.Lines.{field, kind_name, parent_name, tag_name, NameWithin, node_line, head_line, listing_text, refused_text, answer_text};
 ghost use Rattle.lines.specs.Writer.{Puts};
 ghost use Rattle.lines.specs.Writes.{Ends};
 

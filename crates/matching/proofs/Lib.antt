@@ -1,3 +1,3 @@
-pub mod Values
+pub mod Held
 pub mod Openings
 pub mod Settling

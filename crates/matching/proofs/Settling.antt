@@ -10,9 +10,9 @@ use Rattle.rules.specs.declared.Joiner.{Joiner}
 use Rattle.rules.specs.declared.Joiner.TheVariants.{End, And, Or, Descendant, Parent}
 use Rattle.piece.specs.Words.{piece_at, pieces_from}
 use Rattle.piece.proofs.Back.{mean_next}
-use Rattle.matching.specs.Matching.{settled}
+use Rattle.matching.specs.Matching.{decided}
 
-settled_answer : (j : Joiner) (fits rest b : Bool) → settled j fits ≡ Some b → joined j fits rest ≡ b
+settled_answer : (j : Joiner) (fits rest b : Bool) → decided j fits ≡ Some b → joined j fits rest ≡ b
 settled_answer End fits rest b e = cc
 settled_answer And true rest b e = cc
 settled_answer And false rest b e = cc
@@ -21,7 +21,7 @@ settled_answer Or false rest b e = cc
 settled_answer Descendant fits rest b e = cc
 settled_answer Parent fits rest b e = cc
 
-settled_rest : (j : Joiner) (fits rest : Bool) → settled j fits ≡ None → joined j fits rest ≡ rest
+settled_rest : (j : Joiner) (fits rest : Bool) → decided j fits ≡ None → joined j fits rest ≡ rest
 settled_rest End fits rest e = cc
 settled_rest And true rest e = cc
 settled_rest And false rest e = cc
@@ -33,7 +33,7 @@ settled_rest Parent fits rest e = cc
 -- piece i, and what the n pieces from it on mean
 module _ (fits : Simple → Bool) (n : ℕ) (ws : List ℕ) (i : ℕ) (l : i < n) where
   abbrev settles : Option Bool
-  settles = settled (piece_at ws i).joiner (fits (piece_at ws i).simple)
+  settles = decided (piece_at ws i).joiner (fits (piece_at ws i).simple)
 
   abbrev rest : Bool
   rest = meaning fits (pieces_from (n - (i + 1)) ws (i + 1))

@@ -14,13 +14,13 @@ ValueFits R k held r =
     (P : List ℕ → Bool) → ((v : List ℕ) (b : Bool) → R v b → b ≡ P v) → ((v : List ℕ) → (Within k v → ⊥) → P v ≡ false) → r ≡ valued P held
 
 -- a tag's name ends before its opening does, and that lies in the page
-abbrev pub Placed : List ℕ → Node → Type 0
-Placed p n = n.kind ≡ 1 → (n.stop < n.opened) × (n.opened ≤ length p)
+abbrev pub OpeningInPage : List ℕ → Node → Type 0
+OpeningInPage p n = n.kind ≡ 1 → (n.stop < n.opened) × (n.opened ≤ length p)
 
 -- what a piece with this joiner, which fits or not, settles of its chain
-abbrev pub settled : Joiner → Bool → Option Bool
-settled End fits = Some fits
-settled And fits = pick fits None (Some false)
-settled Or fits = pick fits (Some true) None
-settled Descendant fits = Some false
-settled Parent fits = Some false
+abbrev pub decided : Joiner → Bool → Option Bool
+decided End fits = Some fits
+decided And fits = pick fits None (Some false)
+decided Or fits = pick fits (Some true) None
+decided Descendant fits = Some false
+decided Parent fits = Some false

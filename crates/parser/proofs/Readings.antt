@@ -19,7 +19,7 @@ use Rattle.laws.proofs.CutLexer.{Formed, item_grows, item_formed}
 use Rattle.laws.proofs.Lockstep.{put_at_lem}
 use Rattle.laws.proofs.Step.{adds_few, put_count}
 use Rattle.laws.proofs.Soundness.{begin_fine, put_fine}
-use Rattle.tree.specs.Held.{Held, Room, Fits, Inner}
+use Rattle.tree.specs.Held.{Represents, RowRoom, Fits, Inner}
 use Rattle.tree.proofs.Rows.{inner_below, innermost}
 use Rattle.parser.specs.Parsing.{Good}
 
@@ -33,17 +33,18 @@ fits_of n at (Doctype h x) f l m = m
 fits_of n at (Tag a e x s) f l m = ((f.1, omega (arith, f.2)), m)
 fits_of n at (Nothing x) f l m = m
 
+-- the first of the readings is good
+pub good_begin : (p : List ℕ) → Good p begin
+good_begin p = record { fine = begin_fine; few = omega arith; within = omega arith }
+
 module _ (white : ℕ → Bool) (p : List ℕ) where
   pub item_fits : (at : ℕ) → at < length p → Fits (length p) at (item_at white p at)
   item_fits at l =
       let g = item_grows white p at l in fits_of (length p) at (item_at white p at) (item_formed white p at l) g.0 g.1
 
-  -- ---- the readings from the beginning on are good
+  -- ---- and so are those that come after it
 
-  pub good_begin : Good white p begin
-  good_begin = record { fine = begin_fine; few = omega arith; within = omega arith }
-
-  pub good_step : (void : List ℕ → Bool) {R : Reading} → Good white p R → R.at < length p → Good white p (put void p R (item_at white p R.at))
+  pub good_step : (void : List ℕ → Bool) {R : Reading} → Good p R → R.at < length p → Good p (put void p R (item_at white p R.at))
   good_step void {R} G l =
       let i : Item = item_at white p R.at in
       let g = item_grows white p R.at l in
@@ -54,16 +55,16 @@ module _ (white : ℕ → Bool) (p : List ℕ) where
         within = omega (arith, g.1, a);
       }
 
-  pub good_steps : (void : List ℕ → Bool) (k : ℕ) {R : Reading} → Good white p R → Good white p (steps white void p k R)
+  pub good_steps : (void : List ℕ → Bool) (k : ℕ) {R : Reading} → Good p R → Good p (steps white void p k R)
   unfolding steps step
   good_steps void zero G = G
   good_steps void (suc k) {R} G =
-      cases (Good white p) (ltb R.at (length p)) (λ t. good_steps void k (good_step void G (ltb-true R.at (length p) t))) (λ t. G)
+      cases (Good p) (ltb R.at (length p)) (λ t. good_steps void k (good_step void G (ltb-true R.at (length p) t))) (λ t. G)
 
 -- ---- what a table and a state that hold a good reading show to `put`
 
-module _ {white : ℕ → Bool} {p t₁ t hd : List ℕ} {R : Reading} {s : State} (H : Held t₁ t hd R s) (G : Good white p R) where
-  pub room_of : length p ≤ page_limit → s.at < length p → Room t₁ s
+module _ {p t₁ t hd : List ℕ} {R : Reading} {s : State} (H : Represents t₁ t hd R s) (G : Good p R) where
+  pub room_of : length p ≤ page_limit → s.at < length p → RowRoom t₁ s
   room_of limit l =
       record {
         rows = omega (arith, H.count, H.rows.filled.fits, filled_size H.rows.filled);

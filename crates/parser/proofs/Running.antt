@@ -11,22 +11,22 @@ use Rattle.rules.specs.Reader.{Reading, put, steps}
 use Rattle.rules.specs.declared.Item.{Item}
 use Rattle.rules.specs.declared.State.{State}
 use Rattle.laws.proofs.Lockstep.{later, steps_done, step_on}
-use Rattle.tree.specs.Held.{Held, Step}
+use Rattle.tree.specs.Held.{Represents, Step}
 use Rattle.parser.specs.Parsing.{Good, Run}
 use Rattle.parser.proofs.Readings.{good_step}
 
 -- R₀ has become R, and k of the n steps are left
 pub record Came (white : ℕ → Bool) (void : List ℕ → Bool) (p : List ℕ) (n k : ℕ) (t₁ t hd : List ℕ) (s : State) (R₀ : Reading) : Type 0 where
   pub R : Reading
-  pub held : Held t₁ t hd R s
-  pub good : Good white p R
+  pub held : Represents t₁ t hd R s
+  pub good : Good p R
   pub rest : steps white void p n R₀ ≡ steps white void p k R
 
 -- and that whatever R₀ the table t₀ and the state s₀ held
 pub record Along (white : ℕ → Bool) (void : List ℕ → Bool) (p : List ℕ) (n : ℕ)
     (t₀ : List ℕ) (s₀ : State) (t₁ : List ℕ) (s : State) (k : ℕ) : Type 0 where
   pub size : length t₁ ≡ length t₀
-  pub came : (t hd : List ℕ) (R₀ : Reading) → Held t₀ t hd R₀ s₀ → Good white p R₀ → Came white void p n k t₁ t hd s R₀
+  pub came : (t hd : List ℕ) (R₀ : Reading) → Represents t₀ t hd R₀ s₀ → Good p R₀ → Came white void p n k t₁ t hd s R₀
 
 module _ {white : ℕ → Bool} {void : List ℕ → Bool} {p : List ℕ} {n k : ℕ} {t₀ t₁ : List ℕ} {s₀ s : State}
     (A : Along white void p n t₀ s₀ t₁ s k) where

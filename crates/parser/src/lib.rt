@@ -5,8 +5,10 @@
 
 ghost use Rattle.std.specs.Prelude.{◌≤◌, length};
 ghost use Rattle.rules.specs.Profile.{page_limit, void_of, settings_of};
+ghost use Rattle.rules.specs.Refusals.{Leaves};
+ghost use Rattle.rules.specs.Answers.{parse_answer, parse_table};
 ghost use Rattle.scan.specs.Marks.{white_in};
-ghost use Rattle.parser.specs.Parsing.{Reads, Run, Holds, Finished, Parses};
+ghost use Rattle.parser.specs.Parsing.{HoldsPage, Run, HoldsReading, Finished};
 
 use profile::{SIZE, VoidNames};
 use rules::{Refusal, State};
@@ -22,7 +24,7 @@ fn parse_single(
     from: State,
     budget: usize,
 ) -> Option<State>
-    requires { Reads (white_in t.now) page.now table.old from × (length page.now ≤ page_limit) }
+    requires { HoldsPage page.now table.old from × (length page.now ≤ page_limit) }
     ensures { Run (white_in t.now) (void_of void.now.profile.bytes.now) page.now budget table.old from table.new result }
 {
     let mut s = from;
@@ -38,7 +40,7 @@ fn parse_single(
 
 // Settles the open tags and writes the header.
 fn finish(table: &mut [u32], s: State, len: u32)
-    requires { Holds table.old s }
+    requires { HoldsReading table.old s }
     ensures { Finished table.old s len table.new }
 {
     let count = s.count;
@@ -50,7 +52,9 @@ fn finish(table: &mut [u32], s: State, len: u32)
 // Reads a page into a table and answers how many nodes it has. Refused are 14, a profile outside its limits, 1, a page over the profile's
 // limit, and 2, a table with too few rows.
 pub fn parse(profile: &[u8; SIZE], page: &[u8], table: &mut [u32]) -> Result<usize, Refusal>
-    ensures { Parses (settings_of profile.now) page.now table.old table.new result }
+    ensures { let f = settings_of profile.now in
+        let p = page.now in
+        Leaves (parse_answer f p (length table.old)) (parse_table f p table.old) result table.new }
 {
     let profile = match profile::check(profile, page) {
         Ok(profile) => profile,

@@ -1,7 +1,7 @@
 -- Words read back as pieces.
 use Rattle.std.specs.Prelude.{ℕ, zero, suc, ◌*◌, List, [], ◌∷◌, eqb, get_or, take, drop}
 use Rattle.rules.specs.Scan.{pick}
-use Rattle.rules.specs.Selector.{span}
+use Rattle.rules.specs.Selector.{span_of}
 use Rattle.rules.specs.Chain.{piece}
 use Rattle.rules.specs.declared.Span.{Span}
 use Rattle.rules.specs.declared.Simple.{Simple}
@@ -32,7 +32,7 @@ joiner_from w = pick (eqb w 1) And (pick (eqb w 2) Or (pick (eqb w 3) Descendant
 -- the piece that six words say
 abbrev pub piece_of : List ℕ → Piece
 piece_of w =
-    piece (simple_from (get_or w 0 0) (span (get_or w 1 0) (get_or w 2 0)) (span (get_or w 3 0) (get_or w 4 0))) (joiner_from (get_or w 5 0))
+    piece (simple_from (get_or w 0 0) (span_of (get_or w 1 0) (get_or w 2 0)) (span_of (get_or w 3 0) (get_or w 4 0))) (joiner_from (get_or w 5 0))
 
 -- piece i
 unfoldable pub piece_at : List ℕ → ℕ → Piece

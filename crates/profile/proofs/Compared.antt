@@ -17,7 +17,7 @@ use Rattle.std.proofs.lemmas.List.Recursion.{is_position_or_len}
 use Rattle.rules.specs.Bytes.{is, other}
 use Rattle.rules.specs.Scan.{pick, agree, same, span, part}
 use Rattle.rules.specs.Sound.{all}
-use Rattle.rules.specs.Profile.{name_start, name_of}
+use Rattle.rules.specs.Profile.{name_start, void_name}
 use Rattle.rules.proofs.Names.{same_is}
 use Rattle.rules.proofs.Runs.{span_le}
 use Rattle.std.proofs.lemmas.Bool.{and_parts}
@@ -95,8 +95,8 @@ first_zero = is_position_or_len (span (other 0)) (is 0) refl (λ x xs. step (is 
     step false n = omega arith
 
 module _ (q : List ℕ) (size : length q ≡ 392) (i : ℕ) (b : i < 24) where
-  pub name_short : length (name_of q i) ≤ 16
-  unfolding name_of
+  pub name_short : length (void_name q i) ≤ 16
+  unfolding void_name
   name_short =
       let s : ℕ = name_start q i in
       let t : List ℕ = drop s (take (s + 16) q) in
@@ -104,8 +104,8 @@ module _ (q : List ℕ) (size : length q ≡ 392) (i : ℕ) (b : i < 24) where
 
   -- the name ends at the first 0 of its place, or with it
   pub name_first : (r : Option ℕ) → r ≡ position (is 0) (take 16 (drop (name_start q i) q))
-      → (unwrap_or r 16 ≡ length (name_of q i)) × (unwrap_or r 16 ≤ 16)
-  unfolding name_of
+      → (unwrap_or r 16 ≡ length (void_name q i)) × (unwrap_or r 16 ≤ 16)
+  unfolding void_name
   name_first r e = rw e (go (dec_lt n 16))
     where
       s : ℕ
@@ -120,7 +120,7 @@ module _ (q : List ℕ) (size : length q ≡ 392) (i : ℕ) (b : i < 24) where
       low : n ≤ 16
       low = omega (arith, span_le (other 0) xs, first_zero xs, length-take 16 (drop s q))
 
-      size_of : length (name_of q i) ≡ n
+      size_of : length (void_name q i) ≡ n
       size_of =
           omega (
             arith,
@@ -133,13 +133,13 @@ module _ (q : List ℕ) (size : length q ≡ 392) (i : ℕ) (b : i < 24) where
       full : length xs ≡ 16
       full = omega (arith, length-take 16 (drop s q), length-drop s q)
 
-      go : Dec (n < 16) → (unwrap_or (position (is 0) xs) 16 ≡ length (name_of q i)) × (unwrap_or (position (is 0) xs) 16 ≤ 16)
+      go : Dec (n < 16) → (unwrap_or (position (is 0) xs) 16 ≡ length (void_name q i)) × (unwrap_or (position (is 0) xs) 16 ≤ 16)
       go (yes y) = rw (lt-ltb n (length xs) (omega (arith, full))) (sym size_of, low)
       go (no y) = rw (le-ltb n (length xs) (omega (arith, full))) (omega (arith, size_of, low), omega arith)
 
   -- a part of a page that is as long as the name is compared with its place
-  pub name_run : (p : List ℕ) (a e : ℕ) → a ≤ e → e ≤ length p → length (name_of q i) ≡ e - a
-      → same_run p a q (name_start q i) (e - a) ≡ same (part p a e) (name_of q i)
+  pub name_run : (p : List ℕ) (a e : ℕ) → a ≤ e → e ≤ length p → length (void_name q i) ≡ e - a
+      → same_run p a q (name_start q i) (e - a) ≡ same (part p a e) (void_name q i)
   name_run p a e l m n =
-      run_same p a q (name_start q i) (e - a) (part p a e) (name_of q i) (part_length p a e m) n
+      run_same p a q (name_start q i) (e - a) (part p a e) (void_name q i) (part_length p a e m) n
       (part_byte p a e) (λ j h. name_byte_lem q i j (omega arith))

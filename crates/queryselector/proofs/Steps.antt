@@ -2,12 +2,10 @@
 -- than bytes are left, and further steps than that change nothing.
 use Rattle.std.proofs.Common.{Option, Some, None}
 use mathlib.Core.Path.{◌≡◌, refl, sym, ap, subst, ◌∙◌}
-use mathlib.Core.Bool.{Bool}
+use mathlib.Core.Bool.{Bool, true, false}
 use mathlib.Core.List.{List, [], ◌∷◌}
 use Prim.Native.Nat.{ℕ, zero, suc, ◌+◌, ◌-◌, ◌≤◌, ◌<◌}
-use native.Mathlib.Numerals.{add-one}
 use native.Mathlib.Omega.{arith}
-use borrow.Author.Tests.{lt-ltb, le-ltb}
 use lib.Dec.{ltb}
 use lib.ListN.{length}
 use Rattle.rules.specs.Bytes.{is}
@@ -15,57 +13,49 @@ use Rattle.rules.specs.Scan.{pick, here}
 use Rattle.rules.specs.Selector.{spaces_end, simple_at}
 use Rattle.rules.specs.Chain.{piece, join_at, before, combinator_at, selector_of, selector_at, chain_at}
 use Rattle.rules.specs.declared.Simple.{Simple}
+use Rattle.rules.specs.declared.Joiner.{Joiner}
 use Rattle.rules.specs.declared.Joiner.TheVariants.{End}
 use Rattle.rules.specs.declared.Piece.{Piece}
-use Rattle.rules.specs.declared.Join.{Join}
 use Rattle.rules.proofs.Runs.{skip_ge}
-use Rattle.rules.proofs.Places.{Read as ReadAt}
 use Rattle.rules.proofs.Pick.{cases}
 use Rattle.selector.proofs.Ahead.{Ahead, simple_ahead}
-use Rattle.queryselector.specs.Chains.{join_by}
+use Rattle.queryselector.specs.Chains.{joiner_at}
 
 -- ---- the joiner
 
 -- the rest starts at m or just after it
-abbrev pub After : ℕ → Join → Type 0
-After m j = (m ≤ j.next) × (j.next ≤ m + 1)
+abbrev After : ℕ → Joiner × ℕ → Type 0
+After m j = (m ≤ j.1) × (j.1 ≤ m + 1)
 
 join_after : (s : List ℕ) (k m : ℕ) → After m (join_at s k m)
 join_after s k m =
     cases (After m) (here (is 44) s m) (λ _. omega arith)
     (λ _. cases (After m) (here (is 62) s m) (λ _. omega arith) (λ _. omega arith))
 
-join_byte : (s : List ℕ) (k m b : ℕ) → ReadAt s m b → join_at s k m ≡ join_by b k m
-join_byte s k m b R = rw (R.tests (is 44), R.tests (is 62), add-one)
-
-pub joined_after : (s : List ℕ) (k m b : ℕ) (j : Join) → ReadAt s m b → j ≡ join_by b k m → After m j
-joined_after s k m b j R e = subst (After m) (join_byte s k m b R ∙ sym e) (join_after s k m)
-
 -- ---- `parse_combinator`, over any reader of the rest
 
-module _ (rest : ℕ → Option (List Piece)) (s : List ℕ) (x : Simple) (k : ℕ) where
-  -- where t says that the spaces do not end the selector
-  abbrev joined_where : Bool → Join → Option (List Piece)
-  joined_where t j = pick t (before (piece x j.joiner) (rest j.next)) (Some (piece x End ∷ []))
+-- the chain of the simple selector x, by the joiner that follows it
+abbrev pub joined : (ℕ → Option (List Piece)) → Simple → Option (Joiner × ℕ) → Option (List Piece)
+joined rest x (Some (j, n)) = before (piece x j) (rest n)
+joined rest x None = Some (piece x End ∷ [])
 
-  pub combinator_end : length s ≤ spaces_end s k → combinator_at rest s x k ≡ Some (piece x End ∷ [])
-  combinator_end l = ap (λ (t : Bool). joined_where t (join_at s k (spaces_end s k))) (le-ltb (spaces_end s k) (length s) l)
-
-  pub combinator_join : (b : ℕ) (j : Join) → ReadAt s (spaces_end s k) b → j ≡ join_by b k (spaces_end s k)
-      → combinator_at rest s x k ≡ before (piece x j.joiner) (rest j.next)
-  combinator_join b j R e =
-      ap (joined_where (ltb (spaces_end s k) (length s))) (join_byte s k (spaces_end s k) b R ∙ sym e)
-      ∙ ap (λ (t : Bool). joined_where t j) (lt-ltb (spaces_end s k) (length s) R.below)
+pub combinator_joined : (rest : ℕ → Option (List Piece)) (s : List ℕ) (x : Simple) (k : ℕ) → combinator_at rest s x k ≡ joined rest x (joiner_at s k)
+combinator_joined rest s x k = go (ltb (spaces_end s k) (length s)) (join_at s k (spaces_end s k))
+  where
+    go : (t : Bool) (j : Joiner × ℕ) → pick t (before (piece x j.0) (rest j.1)) (Some (piece x End ∷ []))
+        ≡ joined rest x (pick t (Some j) None)
+    go true j = refl
+    go false j = refl
 
 -- ---- two readers of the rest that agree where it is read
 
 combinator_same : (f g : ℕ → Option (List Piece)) (s : List ℕ) (x : Simple) (k : ℕ) → ((m : ℕ) → k ≤ m → f m ≡ g m)
     → combinator_at f s x k ≡ combinator_at g s x k
 combinator_same f g s x k h =
-    let j : Join = join_at s k (spaces_end s k) in
-    let far : k ≤ j.next = omega (arith, join_after s k (spaces_end s k), skip_ge (is 32) s k) in
+    let j : Joiner × ℕ = join_at s k (spaces_end s k) in
+    let far : k ≤ j.1 = omega (arith, join_after s k (spaces_end s k), skip_ge (is 32) s k) in
     let t : Bool = ltb (spaces_end s k) (length s) in
-    ap (λ (o : Option (List Piece)). pick t (before (piece x j.joiner) o) (Some (piece x End ∷ []))) (h j.next far)
+    ap (λ (o : Option (List Piece)). pick t (before (piece x j.0) o) (Some (piece x End ∷ []))) (h j.1 far)
 
 selector_same : (f g : ℕ → Option (List Piece)) (s : List ℕ) (i : ℕ) → ((m : ℕ) → i < m → f m ≡ g m)
     → selector_of f s (simple_at s i) ≡ selector_of g s (simple_at s i)
@@ -118,9 +108,9 @@ short (suc n) s i = go (λ m. short n s m) (simple_at s (spaces_end s i))
   where
     go : ((m : ℕ) → Short n (selector_at n s m)) → (r : Option (Simple × ℕ)) → Short (suc n) (selector_of (selector_at n s) s r)
     go f (Some (x, k)) =
-        let j : Join = join_at s k (spaces_end s k) in
+        let j : Joiner × ℕ = join_at s k (spaces_end s k) in
         cases (Short (suc n)) (ltb (spaces_end s k) (length s))
-        (λ _. short_before n (piece x j.joiner) (selector_at n s j.next) (f j.next)) (λ _. omega arith)
+        (λ _. short_before n (piece x j.0) (selector_at n s j.1) (f j.1)) (λ _. omega arith)
     go f None = tt
 
 pub chain_length : (s : List ℕ) (i : ℕ) (ps : List Piece) → chain_at s i ≡ Some ps → length ps ≤ length s - i

@@ -16,12 +16,12 @@ use Rattle.rules.specs.declared.Refusal.{Refusal}
 use Rattle.rules.specs.declared.Refusal.TheVariants.{SelectorTooLong, SelectorNotRead}
 use Rattle.piece.specs.Words.{piece_words, pieces_from}
 use Rattle.piece.proofs.Back.{words_length, written_length, pieces_back}
-use Rattle.queryselector.specs.Chains.{count_of, written_in, read_count, read_answer}
+use Rattle.queryselector.specs.Chains.{piece_count, written_in, read_count, read_answer}
 use Rattle.queryselector.proofs.Steps.{chain_length}
 
 -- ---- what an answer says of a chain
 
-pub was_refused : (o : Option (List Piece)) → None ≡ count_of o → o ≡ None
+pub was_refused : (o : Option (List Piece)) → None ≡ piece_count o → o ≡ None
 was_refused None e = refl
 was_refused (Some ps) e = cc
 
@@ -30,7 +30,7 @@ pub record Counts (o : Option (List Piece)) (n : ℕ) : Type 0 where
   pub read : o ≡ Some pieces
   pub count : n ≡ length pieces
 
-pub was_pieces : (n : ℕ) (o : Option (List Piece)) → Some n ≡ count_of o → Counts o n
+pub was_pieces : (n : ℕ) (o : Option (List Piece)) → Some n ≡ piece_count o → Counts o n
 was_pieces n None e = absurd (let z : ◌≡◌ {A = ℕ} 0 1 = cc in omega arith)
 was_pieces n (Some ps) e = record { pieces = ps; read = refl; count = cc }
 
@@ -58,10 +58,10 @@ refused_first f s x a h = go (selector_too_long s) (read_selector s) (sym h)
     go false (Some ps) e = cc
 
 -- neither refusal: the selector is short, and has so many pieces
-read_first : (s : List ℕ) (n : ℕ) → read_answer s ≡ Ok n → (selector_too_long s ≡ false) × (Some n ≡ count_of (read_selector s))
+read_first : (s : List ℕ) (n : ℕ) → read_answer s ≡ Ok n → (selector_too_long s ≡ false) × (Some n ≡ piece_count (read_selector s))
 read_first s n = go (selector_too_long s) (read_selector s)
   where
-    go : (t : Bool) (o : Option (List Piece)) → pick t (Err SelectorTooLong) (read_count o) ≡ Ok n → (t ≡ false) × (Some n ≡ count_of o)
+    go : (t : Bool) (o : Option (List Piece)) → pick t (Err SelectorTooLong) (read_count o) ≡ Ok n → (t ≡ false) × (Some n ≡ piece_count o)
     go true o e = cc
     go false None e = cc
     go false (Some ps) e = (refl, cc)

@@ -37,6 +37,7 @@ module _ {T : Type 0} (value : T → ℕ) (s : List ℕ) (at : ℕ) where
   unfolding numbers_at
   no_number k ns place i l e c = let left : k - i ≡ suc (k - (i + 1)) = omega arith in rw (left, ← e) at c
 
-  pub all_numbers : (k : ℕ) (ns : List T) (place i : ℕ) → k ≤ i → length ns ≤ i → Stored k ns place i → numbers_at k s at ≡ Some (map value ns, place)
+  pub all_numbers : (k : ℕ) (ns : List T) (place i : ℕ) → k ≤ i → length ns ≤ i → Stored k ns place i
+      → numbers_at k s at ≡ Some (map value ns, place)
   unfolding numbers_at
   all_numbers k ns place i l m c = let left : k - i ≡ 0 = omega arith in rw (left, take_all i ns m, append-nil) at c

@@ -28,12 +28,12 @@ numbers_at (suc k) s at =
 -- ---- a record
 
 -- a record's numbers, the first four and the last
-abbrev pub head_of : List ℕ → ℕ → Head
-head_of ns n = record { op = get_or ns 0 0; a = get_or ns 1 0; b = get_or ns 2 0; c = get_or ns 3 0; n = n }
+abbrev pub record_head : List ℕ → ℕ → Head
+record_head ns n = record { op = get_or ns 0 0; a = get_or ns 1 0; b = get_or ns 2 0; c = get_or ns 3 0; n = n }
 
 -- the record of these numbers whose bytes start at the place, if a line feed stands after them
 abbrev pub ending : List ℕ → List ℕ → ℕ × ℕ → Option Record
-ending s ns x = pick (here (is 10) s (x.1 + x.0)) (Some (record { head = head_of ns x.0; start = x.1 })) None
+ending s ns x = pick (here (is 10) s (x.1 + x.0)) (Some (record { head = record_head ns x.0; start = x.1 })) None
 
 -- four numbers with a space after each, one with a line feed, and as many bytes as that one says, with a line feed
 unfoldable pub record_at : List ℕ → ℕ → Option Record

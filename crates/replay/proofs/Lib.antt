@@ -1,2 +1,3 @@
-pub mod Lending
+pub mod Repeated
+pub mod Within
 pub mod Writing

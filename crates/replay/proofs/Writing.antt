@@ -1,20 +1,14 @@
--- The lines of calls that write buffers, and a text so many times.
-use mathlib.Core.Path.{◌≡◌, refl, sym, ap, subst}
+-- The lines of calls that write buffers.
+use mathlib.Core.Path.{sym, subst}
 use mathlib.Core.List.{List, [], ◌∷◌, ◌++◌}
-use Prim.Native.Nat.{ℕ, zero, suc, ◌+◌}
-use native.Mathlib.Numerals.{add-one}
-use native.Mathlib.Omega.{arith}
-use lib.ListN.{length}
-use borrow.Author.Tests.{eqb-true}
+use Prim.Native.Nat.{ℕ}
 use Rattle.lines.specs.declared.Writer.{Writer}
 use Rattle.lines.specs.Writer.{Puts}
-use Rattle.lines.proofs.Laws.{then}
 use Rattle.std.proofs.lemmas.Grind.{flat_map-append}
 use Rattle.tl.specs.Exports.{Exports, ExportsBoth}
-use Rattle.std.specs.Prelude.{decimal, ◌==◌, true, Result}
+use Rattle.std.specs.Prelude.{decimal, Result}
 use Rattle.lines.specs.Lines.{field, line_feed}
 use Rattle.records.specs.Printed.{fields, line}
-use Rattle.replay.specs.Lending.{repeated}
 use Rattle.replay.specs.Printed.{Prints, PrintsBoth}
 use Rattle.rules.specs.declared.Refusal.{Refusal}
 
@@ -24,12 +18,14 @@ unfolding line
 joined {u} {v} word ns ms w =
     subst (λ (l : List ℕ). Puts u (word ++ (l ++ line_feed)) v) (sym (flat_map-append (λ m. field (decimal m)) ns ms)) w
 
+-- the line of a call that writes one buffer
 pub prints : {u v : Writer} {word : List ℕ} {answer : Result ℕ Refusal} {buffer : List ℕ} {n k : ℕ} {left : List ℕ}
     → Exports answer buffer n k left → Puts u (word ++ ((fields (n ∷ k ∷ []) ++ fields left) ++ line_feed)) v
     → Prints u word answer buffer v left
 prints {word = word} {n = n} {k = k} {left = left} e w =
     record { printed = rw (← e.is, ← e.left) (joined word (n ∷ k ∷ []) left w); kept = e.left }
 
+-- the line of a call that writes two
 pub prints_both : {u v : Writer} {word : List ℕ} {answer : Result ℕ Refusal} {places texts : List ℕ} {n k : ℕ} {ends left : List ℕ}
     → ExportsBoth answer places texts n k ends left
     → Puts u (word ++ ((fields (n ∷ k ∷ []) ++ (fields ends ++ fields left)) ++ line_feed)) v
@@ -42,15 +38,3 @@ prints_both {u} {v} {word} {n = n} {k = k} {ends = ends} {left = left} e w =
       ends_kept = e.ends_left;
       kept = e.out_left;
     }
-
--- ---- a text so many times
-
-pub repeated_none : (k : ℕ) (text : List ℕ) → (length text == 0) ≡ true → repeated k text ≡ []
-unfolding repeated
-repeated_none zero text e = refl
-repeated_none (suc k) [] e = ap (λ (t : List ℕ). t ++ []) (repeated_none k [] refl)
-repeated_none (suc k) (b ∷ bs) e = let z : suc (length bs) ≡ 0 = eqb-true (suc (length bs)) 0 e in absurd (omega arith)
-
-pub then_again : {u v w : Writer} (text : List ℕ) (i : ℕ) → Puts u (repeated i text) v → Puts v text w → Puts u (repeated (i + 1) text) w
-unfolding repeated
-then_again text i a b = rw add-one (then a b)

@@ -1,10 +1,10 @@
--- The page and the table that the questions are about.
+-- The page and the table that the questions are about: what is lent of their buffers, and how far the answer to a record gets.
 use Rattle.std.specs.Prelude.{ℕ, zero, suc, ◌*◌, ◌≤◌, ◌<◌, Bool, ◌&&◌, List, [], ◌++◌, leb, length, Option, Some, None}
 use Rattle.std.proofs.lemmas.List.Edits.{sets}
 use Rattle.rules.specs.Scan.{pick}
 use Rattle.records.specs.declared.Question.{Question}
 use Rattle.records.specs.declared.Question.TheVariants.{Parse}
-use Rattle.replay.specs.declared.Lent.{Lent}
+use Rattle.replay.specs.declared.lending.Lent.{Lent}
 use Rattle.replay.specs.declared.Step.{Step}
 
 -- a text, so many times
@@ -22,6 +22,7 @@ lent_by (Parse words times) n page table before =
     pick (fits n words times page table) (Some (record { bytes = n * times; words = words })) None
 lent_by question n page table before = Some before
 
+-- the page's buffer after a record: a reading puts its page there
 abbrev pub page_by : Question → List ℕ → List ℕ → ℕ → List ℕ
 page_by (Parse words times) body page table = pick (fits (length body) words times (length page) table) (sets page 0 (repeated times body)) page
 page_by question body page table = page

@@ -12,7 +12,8 @@ pub record Prints (before : Writer) (word : List ℕ) (answer : Result ℕ Refus
   pub kept : left ≡ buffer
 
 -- a call that writes two buffers: the line has the places and then the bytes
-pub record PrintsBoth (before : Writer) (word : List ℕ) (answer : Result ℕ Refusal) (places texts : List ℕ) (after : Writer) (ends left : List ℕ) : Type 0 where
+pub record PrintsBoth (before : Writer) (word : List ℕ) (answer : Result ℕ Refusal) (places texts : List ℕ) (after : Writer)
+    (ends left : List ℕ) : Type 0 where
   pub printed : Puts before (line word (counted_numbers answer ++ (places ++ texts))) after
   pub ends_kept : ends ≡ places
   pub kept : left ≡ texts

@@ -1,7 +1,7 @@
 -- What a check of refusals 14, 1 and 3, and of 4, tells of the answers that come after it.
 use Rattle.std.specs.Prelude.{⊤}
 use Rattle.std.proofs.Common.{Result, Ok, Err}
-use mathlib.Core.Path.{◌≡◌, refl}
+use mathlib.Core.Path.{◌≡◌, refl, sym, ◌∙◌}
 use mathlib.Core.Bool.{Bool, true, false, ◌&&◌}
 use mathlib.Core.List.{List}
 use Prim.Native.Nat.{ℕ, ◌≤◌, ◌<◌}
@@ -13,7 +13,7 @@ use Rattle.rules.specs.Profile.{page_limit, limit_of, profile_fine, Settings, se
 use Rattle.rules.specs.Scan.{pick}
 use Rattle.rules.specs.Table.{node_at}
 use Rattle.rules.specs.Sound.{count_of, sound, tagged}
-use Rattle.rules.specs.Refusals.{Sound, profile_not_fine, page_too_long, table_not_sound, not_a_tag, on_page, asking, asking_tag}
+use Rattle.rules.specs.Refusals.{Sound, profile_not_fine, page_too_long, table_not_sound, not_a_tag, on_page, asking, asking_tag, filled_by, Leaves, Refuses}
 use Rattle.rules.specs.declared.Refusal.{Refusal}
 use Rattle.rules.specs.declared.Refusal.TheVariants.{ProfileNotFine, PageTooLong, TableNotSound, NotATag}
 use Rattle.rules.proofs.Profile.{fine_facts}
@@ -114,3 +114,8 @@ module _ (f : Settings) (p ws : List ℕ) where
 
     pub refused_tag : {x : Refusal} → asking_tag f p ws h fine ≡ Err x → {A : Type 0} (b : Result A Refusal) → asking_tag f p ws h b ≡ Err x
     refused_tag e b = refused_also (not_a_tag ws h) e b
+
+-- what a call leaves that the check refused, and that cleared its buffer b
+pub leaves_refused : (b found : List ℕ) {answer r : Result ℕ Refusal} {out : List ℕ} {x : Refusal} → answer ≡ Err x → Refuses 0 b x r out
+    → Leaves answer (filled_by b found answer) r out
+leaves_refused b found e w = record { is = w.is ∙ sym e; left = w.left ∙ rw e }

@@ -1,4 +1,5 @@
--- Examples, one or more for each rule that the checked pages leave out, as the rules compute them.
+-- Examples, one or more for each rule that the checked pages leave out, as the rules compute them. They are theorems, and no recorded
+-- questions alone, since they check within seconds and a wrong definition fails here first, before any code is proved against it.
 use Prim.Native.Nat.{ℕ}
 use mathlib.Core.Path.{◌≡◌, refl}
 use mathlib.Core.List.{List, [], ◌∷◌, ◌++◌}
@@ -10,7 +11,7 @@ use Rattle.rules.specs.declared.Manner.TheVariants.{Scan, Closed}
 use Rattle.rules.specs.Scan.{span, agree}
 use Rattle.rules.specs.Lists.{from, only, each}
 use Rattle.rules.specs.Names.{one_of}
-use Rattle.rules.specs.Profile.{limit_of, white_of, name_of, void_of, name_byte_fine, name_fine, numbers_fine, profile_fine}
+use Rattle.rules.specs.Profile.{limit_of, white_of, void_name, void_of, name_byte_fine, name_fine, numbers_fine, profile_fine}
 use Rattle.rules.specs.Attributes.{attribute_at, attribute_next, attributes_end}
 use Rattle.rules.specs.Lexer.{comment_end, bang, tag, closing, markup, item_at}
 use Rattle.rules.specs.Reader.{close_into, put, step, steps, with_last}
@@ -109,5 +110,5 @@ unfolding span agree from only each one_of attribute_at attribute_next attribute
     steps with_last node_at filled all reaching attributes first_of last_of lookup_from answer gap words_from times contains operand_at
     attribute_from simple_at selector_at chain_at written meaning parse_answer parse_table range_answer text_answer text_buffer attribute_answer
     attribute_part id_answer class_answer class_buffer selector_answer selector_buffer query_answer query_buffer query_below_answer query_below_buffer
-    limit_of white_of name_of void_of name_byte_fine name_fine numbers_fine profile_fine
+    limit_of white_of void_name void_of name_byte_fine name_fine numbers_fine profile_fine
 computed = refl

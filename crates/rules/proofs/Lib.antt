@@ -12,8 +12,6 @@ pub mod All
 pub mod Lists
 pub mod Buffers
 pub mod Text
-pub mod Closing
-pub mod Rounds
 pub mod Examples
 pub mod ProfileExamples
 pub mod Pages

@@ -5,7 +5,7 @@ use Rattle.rules.specs.Questions.{answers, said}
 use Rattle.rules.specs.Scan.{span, agree}
 use Rattle.rules.specs.Lists.{from, only, each}
 use Rattle.rules.specs.Names.{one_of}
-use Rattle.rules.specs.Profile.{limit_of, white_of, name_of, void_of, name_byte_fine, name_fine, numbers_fine, profile_fine}
+use Rattle.rules.specs.Profile.{limit_of, white_of, void_name, void_of, name_byte_fine, name_fine, numbers_fine, profile_fine}
 use Rattle.rules.specs.Attributes.{attribute_at, attribute_next, attributes_end}
 use Rattle.rules.specs.Lexer.{comment_end, bang, tag, closing, markup, item_at}
 use Rattle.rules.specs.Reader.{close_into, put, step, steps, with_last}
@@ -24,5 +24,5 @@ checked_pages : answers pages ≡ said pages
 unfolding span agree from only each one_of attribute_at attribute_next attributes_end comment_end bang tag closing markup item_at close_into put step
     steps with_last node_at filled all reaching attributes first_of last_of lookup_from answer gap words_from times contains operand_at
     attribute_from simple_at selector_at chain_at written meaning parse_answer parse_table range_answer attribute_answer attribute_part id_answer
-    selector_answer selector_buffer query_answer query_buffer limit_of white_of name_of void_of name_byte_fine name_fine numbers_fine profile_fine
+    selector_answer selector_buffer query_answer query_buffer limit_of white_of void_name void_of name_byte_fine name_fine numbers_fine profile_fine
 checked_pages = refl

@@ -13,7 +13,7 @@ use Rattle.rules.specs.Scan.{span, skip, agree, same}
 use Rattle.rules.specs.Lists.{from}
 use Rattle.rules.specs.Names.{one_of, is_void, void_names}
 use Rattle.rules.specs.Sound.{all}
-use Rattle.rules.specs.Profile.{page_limit, limit_of, white_of, name_start, name_byte, name_of, void_of, name_byte_fine, name_fine}
+use Rattle.rules.specs.Profile.{page_limit, limit_of, white_of, name_start, name_byte, void_name, void_of, name_byte_fine, name_fine}
 use Rattle.rules.specs.Profile.{numbers_fine, profile_fine, tl_profile, Settings, settings_of, base, AsWithout}
 use Rattle.rules.proofs.Sound.{all_true, and_iff}
 
@@ -36,8 +36,8 @@ pub white_tl : white_of tl_profile ≡ is_white
 white_tl = λ i b. white_at b i
 
 -- the 15 names, and 9 places that are empty
-names_tl : map (name_of tl_profile) (from 0 24) ≡ void_names ++ replicate 9 []
-unfolding name_of span from
+names_tl : map (void_name tl_profile) (from 0 24) ≡ void_names ++ replicate 9 []
+unfolding void_name span from
 names_tl = refl
 
 -- a name that is not empty is no empty place
@@ -98,8 +98,8 @@ white_below q e b l =
 
 -- ---- a name's bytes are those of its place
 
-pub name_byte_lem : (q : List ℕ) (i j : ℕ) → j < length (name_of q i) → get_or (name_of q i) j 0 ≡ name_byte q i j
-unfolding name_of
+pub name_byte_lem : (q : List ℕ) (i j : ℕ) → j < length (void_name q i) → get_or (void_name q i) j 0 ≡ name_byte q i j
+unfolding void_name
 name_byte_lem q i j l =
     let s : ℕ = name_start q i in
     let n : ℕ = skip (other 0) (take (s + 16) q) s - s in

@@ -1,7 +1,7 @@
 -- Examples of profiles, as the rules compute them: what is white, which names are void, how long a page may be, and what is no profile.
 use Rattle.std.specs.Prelude.{ℕ, ◌≡◌, ◌+◌, refl, List, [], ◌∷◌, ◌++◌, take, drop, replicate}
 use Rattle.rules.specs.Ascii.{bytes}
-use Rattle.rules.specs.Profile.{limit_of, white_of, name_of, void_of, name_byte_fine, name_fine, numbers_fine, profile_fine, in_places, tl_profile}
+use Rattle.rules.specs.Profile.{limit_of, white_of, void_name, void_of, name_byte_fine, name_fine, numbers_fine, profile_fine, in_places, tl_profile}
 use Rattle.rules.specs.Questions.{Example, example_under, answers, said, tag_row, text_row, range, attribute, class, query, rows, parse, own, foreign}
 use Rattle.rules.specs.declared.Manner.TheVariants.{Scan}
 use Rattle.rules.specs.Scan.{span, agree}
@@ -76,5 +76,5 @@ computed : answers examples ≡ said examples
 unfolding span agree from only each one_of attribute_at attribute_next attributes_end comment_end bang tag closing markup item_at close_into put step
     steps with_last node_at filled all reaching attributes first_of last_of lookup_from answer gap words_from times contains operand_at
     attribute_from simple_at selector_at chain_at written meaning parse_answer parse_table range_answer attribute_answer attribute_part
-    class_answer class_buffer query_answer query_buffer limit_of white_of name_of void_of name_byte_fine name_fine numbers_fine profile_fine
+    class_answer class_buffer query_answer query_buffer limit_of white_of void_name void_of name_byte_fine name_fine numbers_fine profile_fine
 computed = refl

@@ -1,11 +1,12 @@
 -- The calls on a list of handles: one test of the table, then the single call's answer for each handle, in order.
-use Rattle.std.specs.Prelude.{ℕ, ◌+◌, ◌*◌, Bool, false, ◌||◌, List, [], ◌∷◌, ◌++◌, ltb, length, drop, Result, Ok, Err}
+use Rattle.std.specs.Prelude.{ℕ, ◌+◌, ◌*◌, Bool, false, ◌||◌, List, [], ◌∷◌, ◌++◌, ltb, length, Result, Ok, Err}
 use Rattle.rules.specs.Profile.{Settings}
 use Rattle.rules.specs.Scan.{pick, part}
 use Rattle.rules.specs.Lists.{each}
+use Rattle.rules.specs.Table.{node_at}
+use Rattle.rules.specs.Lookup.{lookup}
 use Rattle.rules.specs.Text.{inner_text}
-use Rattle.rules.specs.Refusals.{asking, not_a_tag, filled_by, asked_numbers}
-use Rattle.rules.specs.Answers.{attribute_answer}
+use Rattle.rules.specs.Refusals.{asking, not_a_tag, filled_by, held_numbers}
 use Rattle.rules.specs.declared.Refusal.TheVariants.{NotATag, BufferTooShort}
 use Rattle.rules.specs.declared.Refusal.{Refusal}
 
@@ -26,9 +27,9 @@ each_name f s at [] = []
 each_name f s at (e ∷ es) = f (part s at e) ++ each_name f s e es
 
 module _ (f : Settings) (p ws : List ℕ) where
-  -- the single answer for the tag h and the attribute name k in three words: its numbers after the refusal's
+  -- what the tag h holds for the attribute name k, in three words
   abbrev pub three_of : ℕ → List ℕ → List ℕ
-  three_of h k = drop 1 (asked_numbers (attribute_answer f p ws h k))
+  three_of h k = held_numbers (lookup f.white p (node_at ws h) k)
 
 module _ (f : Settings) (p ws hs : List ℕ) where
   -- ---- what the tags hold for the attribute name k

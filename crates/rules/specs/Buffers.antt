@@ -1,4 +1,4 @@
--- A lent buffer, into which a list is written from a place on.
+-- Words for the contracts of code below the public calls, no rule of the paper: a lent buffer, into which a list is written from a place on.
 use Rattle.std.specs.Prelude.{◌≡◌, List, ◌++◌, ℕ, ◌+◌, length, take, drop}
 
 -- d with s from place `at` on

@@ -2,7 +2,7 @@
 use Rattle.std.specs.Prelude.{ℕ, zero, suc, ◌-◌, List, [], ◌∷◌, ◌++◌, length, ltb, Option, Some, None}
 use Rattle.rules.specs.Bytes.{is}
 use Rattle.rules.specs.Scan.{pick, here}
-use Rattle.rules.specs.Selector.{span, spaces_end, simple_at}
+use Rattle.rules.specs.Selector.{span_of, spaces_end, simple_at}
 use Rattle.rules.specs.declared.Span.{Span}
 use Rattle.rules.specs.declared.Simple.{Simple}
 use Rattle.rules.specs.declared.Simple.TheVariants.{Tag, Id, Class, All, Attribute, AttributeValue, AttributeValueWhitespacedContains}
@@ -10,18 +10,14 @@ use Rattle.rules.specs.declared.Simple.TheVariants.{AttributeValueStartsWith, At
 use Rattle.rules.specs.declared.Joiner.{Joiner}
 use Rattle.rules.specs.declared.Joiner.TheVariants.{End, And, Or, Descendant, Parent}
 use Rattle.rules.specs.declared.Piece.{Piece}
-use Rattle.rules.specs.declared.Join.{Join}
 
 abbrev pub piece : Simple → Joiner → Piece
 piece x j = record { simple = x; joiner = j }
 
-abbrev pub join : Joiner → ℕ → Join
-join j next = record { joiner = j; next = next }
-
 -- the joiner after the spaces from k to m, where m is not the end, and where the rest starts
-abbrev pub join_at : List ℕ → ℕ → ℕ → Join
+abbrev pub join_at : List ℕ → ℕ → ℕ → Joiner × ℕ
 join_at s k m =
-    pick (here (is 44) s m) (join Or (suc m)) (pick (here (is 62) s m) (join Parent (suc m)) (join (pick (ltb k m) Descendant And) m))
+    pick (here (is 44) s m) (Or, suc m) (pick (here (is 62) s m) (Parent, suc m) (pick (ltb k m) Descendant And, m))
 
 -- a piece before the rest of its chain, which was read or not
 abbrev pub before : Piece → Option (List Piece) → Option (List Piece)
@@ -33,7 +29,7 @@ abbrev pub combinator_at : (ℕ → Option (List Piece)) → List ℕ → Simple
 combinator_at rest s x k =
     let m = spaces_end s k in
     let j = join_at s k m in
-    let chain = before (piece x j.joiner) (rest j.next) in
+    let chain = before (piece x j.0) (rest j.1) in
     pick (ltb m (length s)) chain (Some (piece x End ∷ []))
 
 abbrev pub selector_of : (ℕ → Option (List Piece)) → List ℕ → Option (Simple × ℕ) → Option (List Piece)
@@ -67,7 +63,7 @@ abbrev pub six_words : ℕ → Span → Span → Joiner → List ℕ
 six_words kind a b j = kind ∷ a.start ∷ a.end ∷ b.start ∷ b.end ∷ joiner_word j ∷ []
 
 abbrev pub no_span : Span
-no_span = span 0 0
+no_span = span_of 0 0
 
 abbrev pub simple_words : Simple → Joiner → List ℕ
 simple_words (Tag a) = six_words 1 a no_span

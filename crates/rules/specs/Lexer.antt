@@ -15,13 +15,13 @@ next (Doctype h n) = n
 next (Tag a e n s) = n
 next (Nothing n) = n
 
-abbrev pub is_tag : Item → Bool
-is_tag (Text e) = false
-is_tag (Close a e n) = false
-is_tag (Comment a e n) = false
-is_tag (Doctype h n) = false
-is_tag (Tag a e n s) = true
-is_tag (Nothing n) = false
+abbrev pub is_tag_item : Item → Bool
+is_tag_item (Text e) = false
+is_tag_item (Close a e n) = false
+is_tag_item (Comment a e n) = false
+is_tag_item (Doctype h n) = false
+is_tag_item (Tag a e n s) = true
+is_tag_item (Nothing n) = false
 
 -- the place after a comment's `-->`, or 0 where the page ends first
 unfoldable pub comment_end : ℕ → List ℕ → ℕ → ℕ

@@ -29,12 +29,12 @@ module _ (q : List ℕ) where
   name_byte i j = get_or q (name_start i + j) 0
 
   -- name i: what stands in its 16 bytes before the first 0
-  unfoldable pub name_of : ℕ → List ℕ
-  name_of i = part q (name_start i) (skip (other 0) (take (name_start i + 16) q) (name_start i))
+  unfoldable pub void_name : ℕ → List ℕ
+  void_name i = part q (name_start i) (skip (other 0) (take (name_start i + 16) q) (name_start i))
 
   -- xs is one of the names; the empty name is none
   unfoldable pub void_of : List ℕ → Bool
-  void_of xs = ltb 0 (length xs) && one_of xs (map name_of (from 0 24))
+  void_of xs = ltb 0 (length xs) && one_of xs (map void_name (from 0 24))
 
   -- ---- the limits of a profile
 

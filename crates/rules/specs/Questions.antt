@@ -47,13 +47,13 @@ module _ (f : Settings) (p : List ℕ) where
   abbrev table_of : List ℕ
   table_of = parse_table f p (zeros (row_at (length (reading f p).nodes)))
 
-  abbrev pub asked : Asking → List (List ℕ)
-  asked rows = map words_of (reading f p).nodes
-  asked version = ((reading f p).version ∷ []) ∷ []
-  asked (parse n) = counted_numbers (parse_answer f p n) ∷ parse_table f p (zeros n) ∷ []
-  asked (own q) = answer_of table_of q
-  asked (foreign ws q) = answer_of ws q
-  asked (selector n) = counted_numbers (selector_answer p n) ∷ selector_buffer p (zeros n) ∷ []
+  abbrev pub replies : Asking → List (List ℕ)
+  replies rows = map words_of (reading f p).nodes
+  replies version = ((reading f p).version ∷ []) ∷ []
+  replies (parse n) = counted_numbers (parse_answer f p n) ∷ parse_table f p (zeros n) ∷ []
+  replies (own q) = answer_of table_of q
+  replies (foreign ws q) = answer_of ws q
+  replies (selector n) = counted_numbers (selector_answer p n) ∷ selector_buffer p (zeros n) ∷ []
 
 -- a row's words, as a table of examples writes them: a tag's; and a text's or a comment's, of which the last number is the own handle
 abbrev pub tag_row : ℕ → ℕ → ℕ → ℕ → ℕ → ℕ → ℕ → ℕ → List ℕ
@@ -84,7 +84,7 @@ example = example_under tl_profile
 
 -- what the rules answer, for each example of a table
 abbrev pub answers : List Example → List (List (List ℕ))
-answers es = map (λ (e : Example). asked (settings_of e.profile) e.given e.asking) es
+answers es = map (λ (e : Example). replies (settings_of e.profile) e.given e.asking) es
 
 abbrev pub said : List Example → List (List (List ℕ))
 said es = map (λ (e : Example). e.says) es

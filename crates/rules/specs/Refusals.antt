@@ -80,22 +80,32 @@ abbrev pub filled_by : List ℕ → List ℕ → Result ℕ Refusal → List ℕ
 filled_by out found (Ok n) = found ++ drop (length found) out
 filled_by out found (Err x) = replicate (length out) 0
 
+-- what a call answers, and the lent buffer afterwards
+pub record Leaves {A : Type 0} (answer : Result ℕ Refusal) (buffer : List A) (r : Result ℕ Refusal) (out : List A) : Type 0 where
+  pub is : r ≡ answer
+  pub left : out ≡ buffer
+
+-- and of a call with two buffers
+pub record LeavesBoth (answer : Result ℕ Refusal) (places bytes : List ℕ) (r : Result ℕ Refusal) (ends out : List ℕ) : Type 0 where
+  pub is : r ≡ answer
+  pub ends_left : ends ≡ places
+  pub out_left : out ≡ bytes
+
 -- what was found is counted and written into the lent buffer b, or refused as 7 for lack of room
-pub record Counts (found b : List ℕ) (r : Result ℕ Refusal) (out : List ℕ) : Type 0 where
-  pub is : r ≡ counted (length b) (length found)
-  pub left : out ≡ filled_by b found r
+abbrev pub Counts : List ℕ → List ℕ → Result ℕ Refusal → List ℕ → Type 0
+Counts found b r out = Leaves (counted (length b) (length found)) (filled_by b found r) r out
 
 -- a refusal leaves the lent buffer all zero
-pub record Refuses {A : Type 0} (zero : A) (b : List A) (why : Refusal) (r : Result ℕ Refusal) (out : List A) : Type 0 where
-  pub is : r ≡ Err why
-  pub left : out ≡ replicate (length b) zero
+abbrev pub Refuses : {A : Type 0} → A → List A → Refusal → Result ℕ Refusal → List A → Type 0
+Refuses zero b why r out = Leaves (Err why) (replicate (length b) zero) r out
 
 -- ---- a manner's number: 0 is the scan, any other number the closed manner
 
 abbrev pub manner_of : ℕ → Manner
 manner_of n = pick (eqb n 0) Scan Closed
 
--- ---- each answer in numbers: the refusal's number, or 0; the count; then its values
+-- ---- each answer in numbers: the refusal's number, or 0; the count; then its values. A refusal's count is 0. An attribute's answer has
+-- no count: in its place stands which of the three is held, 0 where it is absent, and 0 on a refusal too.
 
 abbrev pub counted_numbers : Result ℕ Refusal → List ℕ
 counted_numbers (Ok n) = 0 ∷ n ∷ []

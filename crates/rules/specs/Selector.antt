@@ -7,8 +7,8 @@ use Rattle.rules.specs.declared.Simple.{Simple}
 use Rattle.rules.specs.declared.Simple.TheVariants.{Tag, Id, Class, All, Attribute, AttributeValue, AttributeValueWhitespacedContains}
 use Rattle.rules.specs.declared.Simple.TheVariants.{AttributeValueStartsWith, AttributeValueEndsWith, AttributeValueSubstring}
 
-abbrev pub span : ℕ → ℕ → Span
-span a e = record { start = a; end = e }
+abbrev pub span_of : ℕ → ℕ → Span
+span_of a e = record { start = a; end = e }
 
 -- `~ ^ $ *`, which stand before the `=` of an attribute selector
 abbrev pub is_operator : ℕ → Bool
@@ -34,7 +34,7 @@ module _ (s : List ℕ) where
 
   -- the identifier at i
   abbrev pub ident : ℕ → Span
-  ident i = span i (ident_end i)
+  ident i = span_of i (ident_end i)
 
   -- the value v, with its `]` looked for at i
   abbrev pub closed_at : Span → ℕ → Option (Span × ℕ)

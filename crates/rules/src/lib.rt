@@ -217,13 +217,6 @@ pub struct Piece {
     pub joiner: Joiner,
 }
 
-// A joiner, and the place where the rest of the chain starts.
-#[derive(Clone, Copy)]
-pub struct Join {
-    pub joiner: Joiner,
-    pub next: usize,
-}
-
 // ---- answers
 
 // Why a call is refused. Its number, 1 to 7 or 14, is what a caller of the exports gets.

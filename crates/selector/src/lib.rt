@@ -1,146 +1,113 @@
-// One simple selector (queryselector/parser): read at a place of a selector's bytes. `t` is the lent table of marks. A slice and a
-// place go as they are: the paper asks for a stream of few thin functions, which `queryselector` has, over functions such as these.
+// One simple selector (queryselector/parser): read from the place of a stream on. `t` is the lent table of marks.
 
 #![tactic(auto)]
 
 ghost use Rattle.std.specs.Prelude.{◌≡◌};
-ghost use Rattle.rules.specs.Selector.{spaces_end, ident_end, ident, closed_at, quoted_at, with_value, operand_at, attribute_from, simple_at};
-ghost use Rattle.rules.specs.declared.Span.{Span};
-ghost use Rattle.rules.specs.declared.Simple.{Simple};
-ghost use Rattle.selector.specs.Within.{Within, operator_at};
+ghost use Rattle.rules.specs.Selector.{operated as operated_by, closed_at, quoted_at, operand_at, attribute_from, ident, ident_end, simple_at};
+ghost use Rattle.selector.specs.Reads.{Reads, operator_at};
+
+pub mod stream;
 
 use rules::{Simple, Span};
 use scan::Marks;
+use stream::Stream;
 
-// The end of the spaces at a place: only space is skipped.
-pub fn skip_whitespaces(s: &[u8], at: usize) -> usize
-    ensures { result ≡ spaces_end s.now at }
+// The value v, whose `]` is due.
+fn close(stream: &mut Stream, v: Span) -> Option<Span>
+    ensures { Reads (closed_at stream.old.«data».now v stream.old.idx) stream.old result stream.new }
 {
-    scan::skip_while(s, at, |b| b == b' ')
-}
-
-// The identifier at a place, perhaps empty.
-fn read_identifier(t: &Marks, s: &[u8], at: usize) -> Span
-    requires { Within s.now at }
-    ensures { result ≡ ident s.now at }
-{
-    let end = t.search_non_ident(s, at);
-    Span {
-        start: at as u32,
-        end: end as u32,
-    }
-}
-
-// The value v, whose `]` is due at a place.
-fn close(s: &[u8], v: Span, at: usize) -> Option<(Span, usize)>
-    ensures { result ≡ closed_at s.now v at }
-{
-    let next = scan::expect_and_skip(s, at, b']')?;
-    Some((v, next))
+    stream.expect_and_skip(b']')?;
+    Some(v)
 }
 
 // A value up to the quote q, and `]`.
-fn read_quoted(t: &Marks, s: &[u8], q: u8, at: usize) -> Option<(Span, usize)>
-    requires { Within s.now at }
-    ensures { result ≡ quoted_at s.now q at }
+fn read_quoted(t: &Marks, stream: &mut Stream, q: u8) -> Option<Span>
+    ensures { Reads (quoted_at stream.old.«data».now q stream.old.idx) stream.old result stream.new }
 {
-    let v = read_identifier(t, s, at);
-    let next = scan::expect_and_skip(s, v.end as usize, q)?;
-    close(s, v, next)
+    let v = stream.read_identifier(t);
+    stream.expect_and_skip(q)?;
+    close(stream, v)
 }
 
-// What follows `=`.
-fn read_operand(t: &Marks, s: &[u8], at: usize) -> Option<(Span, usize)>
-    requires { Within s.now at }
-    ensures { result ≡ operand_at s.now at }
+// What follows `=`: a value, with quotes or without, and `]`.
+#[tactic(auto, unfolding(rules::specs::Selector::operand_at, rules::specs::Places::current_at))]
+fn read_value(t: &Marks, stream: &mut Stream) -> Option<Span>
+    ensures { Reads (operand_at stream.old.«data».now stream.old.idx) stream.old result stream.new }
 {
-    let b = scan::current_cpy(s, at)?;
+    let b = stream.current_cpy()?;
     if (b == b'"') | (b == b'\'') {
-        return read_quoted(t, s, b, at + 1);
+        stream.advance();
+        return read_quoted(t, stream, b);
     }
-    let v = read_identifier(t, s, at);
-    close(s, v, v.end as usize)
+    let v = stream.read_identifier(t);
+    close(stream, v)
 }
 
-// A value at a place, and the simple selector that it makes with an attribute's name.
-fn read_value<F: Fn(Span, Span) -> Simple>(
-    t: &Marks,
-    s: &[u8],
-    name: Span,
-    at: usize,
-    simple: F,
-) -> Option<(Simple, usize)>
-    requires place { Within s.now at }
-    requires callable { F.IsAlwaysCallable simple }
-    ensures { (f : Span → Simple) → ((v : Span) (x : Simple) → F.post simple name v x → x ≡ f v)
-        → result ≡ with_value f (operand_at s.now at) }
+// The simple selector of an attribute and a value, by the byte before its `=`.
+fn operated(op: u8, name: Span, value: Span) -> Simple
+    ensures { result ≡ operated_by op name value }
 {
-    let (value, next) = read_operand(t, s, at)?;
-    Some((simple(name, value), next))
+    match op {
+        b'~' => Simple::AttributeValueWhitespacedContains(name, value),
+        b'^' => Simple::AttributeValueStartsWith(name, value),
+        b'$' => Simple::AttributeValueEndsWith(name, value),
+        _ => Simple::AttributeValueSubstring(name, value),
+    }
 }
 
-// What follows one of `~ ^ $ *` after an attribute's name: `=` and a value.
-fn read_operator<F: Fn(Span, Span) -> Simple>(
-    t: &Marks,
-    s: &[u8],
-    name: Span,
-    at: usize,
-    simple: F,
-) -> Option<(Simple, usize)>
-    requires place { Within s.now at }
-    requires callable { F.IsAlwaysCallable simple }
-    ensures { (f : Span → Simple) → ((v : Span) (x : Simple) → F.post simple name v x → x ≡ f v) → result ≡ operator_at s.now f at }
+// What follows the byte op, one of `~ ^ $ *`, after an attribute's name: `=` and a value.
+fn read_operator(t: &Marks, stream: &mut Stream, name: Span, op: u8) -> Option<Simple>
+    ensures { Reads (operator_at stream.old.«data».now (operated_by op name) stream.old.idx) stream.old result stream.new }
 {
-    let from = scan::expect_and_skip(s, at, b'=')?;
-    read_value(t, s, name, from, simple)
+    stream.expect_and_skip(b'=')?;
+    let value = read_value(t, stream)?;
+    Some(operated(op, name, value))
 }
 
 // What follows `[`.
-fn parse_attribute(t: &Marks, s: &[u8], at: usize) -> Option<(Simple, usize)>
-    requires { Within s.now at }
-    ensures { result ≡ attribute_from s.now (ident s.now at) (ident_end s.now at) }
+#[tactic(auto, unfolding(rules::specs::Selector::attribute_from, rules::specs::Places::current_at))]
+fn parse_attribute(t: &Marks, stream: &mut Stream) -> Option<Simple>
+    ensures { let s = stream.old.«data».now in
+        Reads (attribute_from s (ident s stream.old.idx) (ident_end s stream.old.idx)) stream.old result stream.new }
 {
-    let name = read_identifier(t, s, at);
-    let end = name.end as usize;
-    let b = scan::current_cpy(s, end)?;
+    let name = stream.read_identifier(t);
+    let b = stream.current_cpy()?;
+    stream.advance();
     match b {
-        b']' => Some((Simple::Attribute(name), end + 1)),
-        b'=' => read_value(t, s, name, end + 1, Simple::AttributeValue),
-        b'~' => read_operator(
-            t,
-            s,
-            name,
-            end + 1,
-            Simple::AttributeValueWhitespacedContains,
-        ),
-        b'^' => read_operator(t, s, name, end + 1, Simple::AttributeValueStartsWith),
-        b'$' => read_operator(t, s, name, end + 1, Simple::AttributeValueEndsWith),
-        b'*' => read_operator(t, s, name, end + 1, Simple::AttributeValueSubstring),
+        b']' => Some(Simple::Attribute(name)),
+        b'=' => {
+            let value = read_value(t, stream)?;
+            Some(Simple::AttributeValue(name, value))
+        }
+        b'~' | b'^' | b'$' | b'*' => read_operator(t, stream, name, b),
         _ => None,
     }
 }
 
-// The simple selector at a place.
-pub fn parse_simple(t: &Marks, s: &[u8], at: usize) -> Option<(Simple, usize)>
-    requires { Within s.now at }
-    ensures { result ≡ simple_at s.now at }
+// The simple selector at the place.
+#[tactic(auto, unfolding(rules::specs::Selector::simple_at, rules::specs::Places::current_at))]
+pub fn parse_simple(t: &Marks, stream: &mut Stream) -> Option<Simple>
+    ensures { Reads (simple_at stream.old.«data».now stream.old.idx) stream.old result stream.new }
 {
-    let b = scan::current_cpy(s, at)?;
+    let b = stream.current_cpy()?;
     match b {
         b'#' => {
-            let id = read_identifier(t, s, at + 1);
-            Some((Simple::Id(id), id.end as usize))
+            stream.advance();
+            Some(Simple::Id(stream.read_identifier(t)))
         }
         b'.' => {
-            let class = read_identifier(t, s, at + 1);
-            Some((Simple::Class(class), class.end as usize))
+            stream.advance();
+            Some(Simple::Class(stream.read_identifier(t)))
         }
-        b'*' => Some((Simple::All, at + 1)),
-        b'[' => parse_attribute(t, s, at + 1),
-        _ if t.is_ident(b) => {
-            let tag = read_identifier(t, s, at);
-            Some((Simple::Tag(tag), tag.end as usize))
+        b'*' => {
+            stream.advance();
+            Some(Simple::All)
         }
+        b'[' => {
+            stream.advance();
+            parse_attribute(t, stream)
+        }
+        _ if t.is_ident(b) => Some(Simple::Tag(stream.read_identifier(t))),
         _ => None,
     }
 }

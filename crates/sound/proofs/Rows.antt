@@ -23,7 +23,7 @@ use Rattle.rules.specs.declared.Node.{Node}
 use Rattle.rules.specs.Sound.{tagged, places_sound, ended_sound, last_at, reaching, parent_at, row_sound}
 use Rattle.std.proofs.lemmas.Bool.{and_parts}
 use Rattle.rules.proofs.Sound.{sound_row, climb_step, reaching_le, reaching_here, reaching_pass}
-use Rattle.sound.specs.Row.{own_sound, under_sound, Starts, next_of}
+use Rattle.sound.specs.Row.{own_sound, under_sound, ClimbStart, next_climb}
 
 -- ---- a row by itself
 
@@ -221,7 +221,7 @@ module _ (len : ℕ) (ws : List ℕ) (count h : ℕ) where
   -- by the node n, and the three tests at their values
   pub next_is : (n : Node) → n ≡ node_at ws h → {a b c : Bool}
       → own_sound len count h n ≡ a → under_sound ws (parent_at ws h) n ≡ b → tagged n ≡ c
-      → pick (a && b) (Some (pick c (h + 1) (parent_at ws h))) None ≡ next_of len ws count h
+      → pick (a && b) (Some (pick c (h + 1) (parent_at ws h))) None ≡ next_climb len ws count h
   next_is n en ea eb ec = rw (row_is, ← en, ea, eb, ec)
 
   -- a node that is right about its parent names it
@@ -234,7 +234,7 @@ module _ (len : ℕ) (ws : List ℕ) (count h : ℕ) where
       let low = (and_parts (leb h n.last && ltb n.last count) (tagged n || eqb n.last h) last).0 in
       leb-true h n.last (and_parts (leb h n.last) (ltb n.last count) low).0
 
-  pub next_not : (r : Option ℕ) → r ≡ next_of len ws count h → r ≡ None → row_sound len ws count h ≡ false
+  pub next_not : (r : Option ℕ) → r ≡ next_climb len ws count h → r ≡ None → row_sound len ws count h ≡ false
   next_not r e u = go (row_sound len ws count h) _ (sym e ∙ u)
     where
       go : (b : Bool) (f : ℕ) → pick b (Some f) None ≡ None → b ≡ false
@@ -243,17 +243,17 @@ module _ (len : ℕ) (ws : List ℕ) (count h : ℕ) where
 
   -- after a tag the climb starts at the row before, after another node at its parent, as if it had climbed there (`climb_step`)
   starts : (c : Bool) (f : ℕ) → tagged (node_at ws h) ≡ c → row_sound len ws count h ≡ true → pick c (h + 1) (parent_at ws h) ≡ f
-      → Starts ws (h + 1) f
+      → ClimbStart ws (h + 1) f
   starts true f t s e = record { low = omega arith; same = ap (reaching (last_at ws) (h + 1)) (sym e) }
   starts false f t s e =
       let own : last_at ws h ≡ h = (sound_row len ws count h s).leaf (eqb-false (node_at ws h).kind 1 t) in
       let step = climb_step (last_at ws) (h + 1) h f (omega arith) (omega arith) (sym e) in
       record { low = omega (arith, reaching_le (last_at ws) h h); same = step ∙ ap (reaching (last_at ws) (h + 1)) (sym (add-one h)) }
 
-  pub next_from_lem : (r : Option ℕ) (f : ℕ) → r ≡ next_of len ws count h → r ≡ Some f → (row_sound len ws count h ≡ true) × Starts ws (h + 1) f
+  pub next_from_lem : (r : Option ℕ) (f : ℕ) → r ≡ next_climb len ws count h → r ≡ Some f → (row_sound len ws count h ≡ true) × ClimbStart ws (h + 1) f
   next_from_lem r f e g = go (row_sound len ws count h) refl (sym e ∙ g)
     where
       go : (b : Bool) → row_sound len ws count h ≡ b → pick b (Some (pick (tagged (node_at ws h)) (h + 1) (parent_at ws h))) None ≡ Some f
-          → (row_sound len ws count h ≡ true) × Starts ws (h + 1) f
+          → (row_sound len ws count h ≡ true) × ClimbStart ws (h + 1) f
       go true s e = (s, starts (tagged (node_at ws h)) f refl s (cc))
       go false s e = let z : ◌≡◌ {A = ℕ} 0 1 = cc in absurd (omega arith)

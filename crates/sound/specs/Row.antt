@@ -15,11 +15,11 @@ abbrev pub under_sound : List ℕ → ℕ → Node → Bool
 under_sound ws p n = eqb n.parent p && (eqb p 0 || leb n.last (last_at ws (p - 1)))
 
 -- the climb for row h may start at `from`: what reaches h among the rows below `from` is what reaches it among all rows below h
-pub record Starts (ws : List ℕ) (h from : ℕ) : Type 0 where
+pub record ClimbStart (ws : List ℕ) (h from : ℕ) : Type 0 where
   pub low : from ≤ h
   pub same : reaching (last_at ws) h from ≡ parent_at ws h
 
 -- after row h: the next climb starts at a tag itself, which may hold the next row, or at another node's parent
-abbrev pub next_of : ℕ → List ℕ → ℕ → ℕ → Option ℕ
-next_of len ws count h =
+abbrev pub next_climb : ℕ → List ℕ → ℕ → ℕ → Option ℕ
+next_climb len ws count h =
     pick (row_sound len ws count h) (Some (pick (tagged (node_at ws h)) (h + 1) (parent_at ws h))) None

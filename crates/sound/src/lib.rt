@@ -5,7 +5,7 @@
 ghost use Rattle.std.specs.Prelude.{◌≡◌, ◌↔◌, ◌&&◌, ℕ, ◌+◌, ◌^◌, ◌≤◌, ◌<◌, true, length, get_or, IsSome, IfSome};
 ghost use Rattle.rules.specs.Table.{head_words, row_at, node_at};
 ghost use Rattle.rules.specs.Sound.{places_sound, ended_sound, head_sound, parent_at, row_sound, count_of, is_tag, sound, all};
-ghost use Rattle.sound.specs.Row.{own_sound, under_sound, Starts, next_of};
+ghost use Rattle.sound.specs.Row.{own_sound, under_sound, ClimbStart, next_climb};
 ghost use Rattle.sound.specs.Document.{Places};
 
 use rules::{Ended, HTML5, Kind, Node};
@@ -116,7 +116,7 @@ impl<'a> TableRows<'a> {
     // What the node n of row h says of its parent. It climbs from row `from` - 1 through parents, by their words, as far as n's own: each
     // lies below h as its word says, and none that is passed may reach h. The rows between a row and its parent end before that row.
     fn under(&self, n: Node, h: usize, from: usize) -> bool
-        requires h_in_bounds { (h < self.now.count) × Starts self.now.table.now h from × (h ≤ n.last) }
+        requires h_in_bounds { (h < self.now.count) × ClimbStart self.now.table.now h from × (h ≤ n.last) }
         requires by_index { (j : ℕ) → j < h → (node_at self.now.table.now j).parent ≡ parent_at self.now.table.now j }
         ensures { result ≡ under_sound self.now.table.now (parent_at self.now.table.now h) n }
     {
@@ -143,9 +143,9 @@ impl<'a> TableRows<'a> {
 
     // Row h, whose climb starts at `from`. The next row may lie in h if that is a tag, and else in no row after the parent of h.
     fn row_sound(&self, h: usize, from: usize) -> Option<usize>
-        requires h_lt_count { (h < self.now.count) × Starts self.now.table.now h from }
+        requires h_lt_count { (h < self.now.count) × ClimbStart self.now.table.now h from }
         requires by_index { (j : ℕ) → j < h → (node_at self.now.table.now j).parent ≡ parent_at self.now.table.now j }
-        ensures { result ≡ next_of self.now.len self.now.table.now self.now.count h }
+        ensures { result ≡ next_climb self.now.len self.now.table.now self.now.count h }
     {
         let n = self.row(h);
         if !self.own_sound(h) {

@@ -10,8 +10,7 @@ use Rattle.rules.specs.Attributes.{not_closing, attribute_at, attribute_next}
 use Rattle.rules.specs.Lookup.{attributes}
 use Rattle.rules.specs.declared.Attribute.{Attribute}
 use Rattle.rules.proofs.Runs.{skip_le, skip_end}
-use Rattle.rules.proofs.Places.{here_false}
-use Rattle.rules.proofs.Places.{here_below}
+use Rattle.rules.proofs.Places.{here_false, here_below}
 use Rattle.laws.proofs.Cut.{next_scans, next_strict}
 
 module _ (white : ℕ → Bool) (p : List ℕ) where

@@ -14,7 +14,7 @@ use Rattle.rules.specs.declared.Node.{Node}
 use Rattle.rules.proofs.Sound.{sound_fits, sound_rows}
 use Rattle.rules.proofs.Nest.{sound_nests}
 use Rattle.rules.proofs.Text.{text_from, text_all, text_none, text_next, text_child}
-use Rattle.tag.specs.Tag.{text_of}
+use Rattle.tag.specs.Tag.{node_text}
 
 -- a walk over the rows of h, up to its last, stands at row k
 pub record Walk (ws : List ℕ) (h last k : ℕ) : Type 0 where
@@ -48,7 +48,7 @@ module _ (p ws : List ℕ) (h : ℕ) where
     from_none l = text_none p ws h k (omega (arith, own_last))
 
     -- row k is n, and s its text
-    pub from_next : k ≤ t.last → {n : Node} → n ≡ node_at ws k → {s : List ℕ} → s ≡ text_of p n → text_from p ws h k ≡ s ++ text_from p ws h (k + 1)
+    pub from_next : k ≤ t.last → {n : Node} → n ≡ node_at ws k → {s : List ℕ} → s ≡ node_text p n → text_from p ws h k ≡ s ++ text_from p ws h (k + 1)
     from_next l e y = rw (y, e, add-one) (text_next p ws h k (omega (arith, own_last)))
 
 module _ (p ws : List ℕ) (e : sound (length p) ws ≡ true) where
@@ -79,14 +79,14 @@ module _ (p ws : List ℕ) (e : sound (length p) ws ≡ true) where
       next_row = row (omega (arith, w.count)) q
 
       -- n is a child of h: the rows after it go on after its last, and before them stands what lies below it, or its own text
-      child : after p ws h k ≡ pick (tagged n) (inner_text p ws (k + 1)) (text_of p n) ++ after p ws h n.last
+      child : after p ws h k ≡ pick (tagged n) (inner_text p ws (k + 1)) (node_text p n) ++ after p ws h n.last
       child =
           rw (q, add-one) (text_child (length p) p ws e h (suc k) (omega (arith, w.low, w.count)) (omega (arith, w.low)) (omega (arith, w.top)))
 
       pub after_tag : tagged n ≡ true → after p ws h k ≡ inner_text p ws (k + 1) ++ after p ws h n.last
       after_tag y = rw y at child
 
-      pub after_leaf : tagged n ≡ false → after p ws h k ≡ text_of p n ++ after p ws h n.last
+      pub after_leaf : tagged n ≡ false → after p ws h k ≡ node_text p n ++ after p ws h n.last
       after_leaf x = rw x at child
 
       pub walk_child : Walk ws h last n.last

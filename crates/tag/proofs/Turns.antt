@@ -13,7 +13,7 @@ use Rattle.rules.specs.declared.Attribute.{Attribute}
 use Rattle.rules.proofs.Runs.{skip_ge, skip_le}
 use Rattle.rules.proofs.Places.{here_below}
 use Rattle.tag.proofs.Fuel.{from, from_none, from_more, from_on}
-use Rattle.tag.specs.Tag.{next_of}
+use Rattle.tag.specs.Tag.{next_attribute}
 
 module _ (white : ℕ → Bool) (p : List ℕ) where
   -- the attributes from i on are a and those after it; its name lies in the page, and the walk goes on later in the page
@@ -41,10 +41,10 @@ module _ (white : ℕ → Bool) (p : List ℕ) where
           next = on.1;
         }
 
-    module _ {r : Option Attribute} (e : r ≡ next_of white p i) where
+    module _ {r : Option Attribute} (e : r ≡ next_attribute white p i) where
       -- the next one was found
       pub next_left : (a : Attribute) → r ≡ Some a → Turn i a
-      unfolding next_of
+      unfolding next_attribute
       next_left a f = go (here not_closing p at) refl (sym e ∙ f)
         where
           go : (b : Bool) → here not_closing p at ≡ b → pick b (Some (attribute_at white p at)) None ≡ Some a → Turn i a
@@ -53,15 +53,15 @@ module _ (white : ℕ → Bool) (p : List ℕ) where
 
       -- there is none
       pub none_left : r ≡ None → from white p i ≡ []
-      unfolding next_of
+      unfolding next_attribute
       none_left f = go (here not_closing p at) refl (sym e ∙ f)
         where
           go : (b : Bool) → here not_closing p at ≡ b → pick b (Some (attribute_at white p at)) None ≡ None → from white p i ≡ []
           go true y q = let z : ◌≡◌ {A = ℕ} 0 1 = cc in absurd (omega arith)
           go false y q = from_none white p i at refl y
 
-  pub turn : {i : ℕ} → i ≤ length p → {r : Option Attribute} → r ≡ next_of white p i → (a : Attribute) → r ≡ Some a → Turn i a
+  pub turn : {i : ℕ} → i ≤ length p → {r : Option Attribute} → r ≡ next_attribute white p i → (a : Attribute) → r ≡ Some a → Turn i a
   turn h e a f = next_left _ e a f
 
-  pub none : {i : ℕ} → i ≤ length p → {r : Option Attribute} → r ≡ next_of white p i → r ≡ None → from white p i ≡ []
+  pub none : {i : ℕ} → i ≤ length p → {r : Option Attribute} → r ≡ next_attribute white p i → r ≡ None → from white p i ≡ []
   none h e f = none_left _ e f

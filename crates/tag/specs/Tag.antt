@@ -8,11 +8,11 @@ use Rattle.rules.specs.declared.Node.{Node}
 use Rattle.rules.specs.declared.Held.{Held}
 use Rattle.rules.specs.declared.Held.TheVariants.{Value}
 use Rattle.rules.specs.declared.Attribute.{Attribute}
-use Rattle.tag.specs.declared.Attributes.{Attributes}
+use Rattle.tag.specs.declared.iter.Attributes.{Attributes}
 
 -- the attribute after the white from i on
-unfoldable pub next_of : (ℕ → Bool) → List ℕ → ℕ → Option Attribute
-next_of white p i = pick (here not_closing p (skip white p i)) (Some (attribute_at white p (skip white p i))) None
+unfoldable pub next_attribute : (ℕ → Bool) → List ℕ → ℕ → Option Attribute
+next_attribute white p i = pick (here not_closing p (skip white p i)) (Some (attribute_at white p (skip white p i))) None
 
 -- the attributes that a walk has before it
 abbrev pub left : Attributes → List Attribute
@@ -34,5 +34,5 @@ pub record Looked (white : ℕ → Bool) (p : List ℕ) (n : Node) (name : List 
   pub within : (a e : ℕ) → r ≡ Value a e → (a ≤ e) × (e ≤ n.opened) × (e ≤ length p)
 
 -- the bytes of a text node; another node has none
-abbrev pub text_of : List ℕ → Node → List ℕ
-text_of p n = pick (eqb n.kind 2) (part p n.start n.end) []
+abbrev pub node_text : List ℕ → Node → List ℕ
+node_text p n = pick (eqb n.kind 2) (part p n.start n.end) []

@@ -8,11 +8,13 @@ use Rattle.rules.specs.declared.Refusal.{Refusal}
 use Rattle.rules.specs.declared.Held.{Held}
 use Rattle.tl.specs.Exports.{Exports}
 
+-- a count, or 0 after a refusal's number
 pub counted : {a answer : Result ℕ Refusal} {r n : ℕ} → a ≡ answer
     → IfOk a (λ v. (r ≡ 0) × (n ≡ v)) → IfErr a (λ x. (r ≡ number_of x) × (n ≡ 0)) → (r ∷ n ∷ []) ≡ counted_numbers answer
 counted {a = Ok v} e ok err = rw (← e, ok.0, ok.1)
 counted {a = Err x} e ok err = rw (← e, err.0, err.1)
 
+-- a count, and a buffer that the call wrote
 pub exported : {a answer : Result ℕ Refusal} {buffer out : List ℕ} {r n : ℕ} → a ≡ answer → out ≡ buffer
     → IfOk a (λ v. (r ≡ 0) × (n ≡ v)) → IfErr a (λ x. (r ≡ number_of x) × (n ≡ 0)) → Exports answer buffer r n out
 exported e b ok err = record { is = counted e ok err; left = b }
@@ -25,6 +27,7 @@ all_zero (x ∷ xs) zero l e = absurd (omega arith)
 all_zero (x ∷ xs) (suc n) l e = ap₂ (◌∷◌) (e 0 0 (omega arith)) (all_zero xs n (omega arith) (λ i d m. e (suc i) d (omega arith)))
 
 module _ {A : Type 0} (numbers : Result A Refusal → List ℕ) (k : ℕ) (refused : (x : Refusal) → numbers (Err x) ≡ number_of x ∷ replicate k 0) where
+  -- several numbers, or zeros after a refusal's number
   pub several : {a answer : Result A Refusal} (m : Result (List ℕ) Refusal) {r : ℕ} {out : List ℕ} → a ≡ answer
       → MatchResult a (λ v. IsOkAnd m (λ l. (0 ∷ l) ≡ numbers (Ok v))) (λ x. m ≡ Err x)
       → IfOk m (λ l. (r ≡ 0) × (out ≡ l)) → IfErr m (λ x. (r ≡ number_of x) × AllOfLen (λ n. n ≡ 0) out k) → (r ∷ out) ≡ numbers answer

@@ -14,6 +14,7 @@ use Rattle.rules.specs.Answers.{range_answer}
 use Rattle.rules.proofs.Pick.{cases}
 use Rattle.tl.specs.Exports.{Ascending}
 
+-- a handle below its last
 ascends : (h last : ℕ) → ltb h last ≡ true → Ascending (Ok (Some (suc h, last)))
 ascends h last e = (omega arith, omega (arith, ltb-true h last e))
 
@@ -26,5 +27,6 @@ range_ascends f p ws h =
     (λ _. cases Ascending (not_a_tag ws h) (λ _. tt)
     (λ _. cases (λ (r : Option (ℕ × ℕ)). Ascending (Ok r)) (ltb h (last_at ws h)) (ascends h (last_at ws h)) (λ _. tt)))))
 
+-- so does what a call answered
 pub ascends_at : (f : Settings) (p ws : List ℕ) (h : ℕ) {x : Option (ℕ × ℕ)} → range_answer f p ws h ≡ Ok x → Ascending (Ok x)
 ascends_at f p ws h e = subst Ascending e (range_ascends f p ws h)

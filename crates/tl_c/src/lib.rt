@@ -7,9 +7,8 @@
 ghost use Rattle.std.specs.Prelude.{◌≡◌, ◌∷◌, length};
 ghost use Rattle.rules.specs.Profile.{settings_of};
 ghost use Rattle.rules.specs.Refusals.{manner_of, ranged_numbers, found_numbers, asked_numbers};
-ghost use Rattle.rules.specs.Answers.{parse_answer, parse_table, selector_answer, selector_buffer, range_answer, text_answer, text_buffer};
+ghost use Rattle.rules.specs.Answers.{parse_answer, parse_table, selector_answer, selector_buffer, range_answer, text_answer, text_buffer, query_below_buffer};
 ghost use Rattle.rules.specs.Answers.{attribute_answer, id_answer, class_answer, class_buffer, query_answer, query_buffer, query_below_answer};
-ghost use Rattle.rules.specs.Answers.{query_below_buffer};
 ghost use Rattle.rules.specs.Batch.{attributes_answer, attributes_buffer, names_answer, names_buffer, texts_answer, texts_buffer, ends_buffer};
 ghost use Rattle.tl.specs.Exports.{Exports, ExportsBoth};
 

@@ -10,16 +10,16 @@ use Rattle.rules.specs.Reader.{no_node, node, parent_of, closed}
 use Rattle.rules.specs.Table.{node_at, put_row}
 use Rattle.rules.proofs.Table.{filled_size, filled_node, filled_next, filled_same}
 use Rattle.rules.specs.declared.Node.{Node}
-use Rattle.tree.specs.Held.{Chained, Rows, Written}
+use Rattle.tree.specs.Held.{OpenChain, Rows, Written}
 
 -- ---- the chain of open tags
 
-pub inner_below : (ns : List Node) (hs : List ℕ) → Chained ns hs → parent_of hs ≤ length ns
+pub inner_below : (ns : List Node) (hs : List ℕ) → OpenChain ns hs → parent_of hs ≤ length ns
 inner_below ns [] c = omega arith
 inner_below ns (h ∷ hs) c = c.0
 
 -- it stays a chain with a row more, and with another end and last in a row
-pub chain_snoc : (ns : List Node) (x : Node) (hs : List ℕ) → Chained ns hs → Chained (ns ++ (x ∷ [])) hs
+pub chain_snoc : (ns : List Node) (x : Node) (hs : List ℕ) → OpenChain ns hs → OpenChain (ns ++ (x ∷ [])) hs
 chain_snoc ns x [] c = tt
 chain_snoc ns x (h ∷ hs) c = (
   omega (arith, c.0, length-append ns (x ∷ [])),
@@ -28,7 +28,7 @@ chain_snoc ns x (h ∷ hs) c = (
   chain_snoc ns x hs c.3,
 )
 
-chain_set : (ns : List Node) (k e l x : ℕ) (hs : List ℕ) → Chained ns hs → Chained (set ns k (closed (node ns k) e l x)) hs
+chain_set : (ns : List Node) (k e l x : ℕ) (hs : List ℕ) → OpenChain ns hs → OpenChain (set ns k (closed (node ns k) e l x)) hs
 chain_set ns k e l x [] c = tt
 chain_set ns k e l x (h ∷ hs) c =
     (omega (arith, c.0, length-set ns k (closed (node ns k) e l x)), go (ℕ_discrete h k) ∙ c.1, c.2, chain_set ns k e l x hs c.3)
@@ -45,7 +45,7 @@ pub record Innermost (t₁ : List ℕ) (ns : List Node) (hs : List ℕ) (k : ℕ
   pub row : node_at t₁ k ≡ node ns k
   pub parent : (node ns k).parent ≡ parent_of around
   pub lower : parent_of around ≤ k
-  pub chained : Chained ns around
+  pub chained : OpenChain ns around
 
 module _ {t₁ t hd : List ℕ} {ns : List Node} {hs : List ℕ} {inner : ℕ} (S : Rows t₁ t hd ns hs inner) where
   pub none_open : inner ≡ 0 → hs ≡ []
@@ -58,7 +58,7 @@ module _ {t₁ t hd : List ℕ} {ns : List Node} {hs : List ℕ} {inner : ℕ} (
   pub innermost : 0 < inner → Innermost t₁ ns hs (inner - 1)
   innermost some = go hs S.innermost S.chained
     where
-      go : (ks : List ℕ) → inner ≡ parent_of ks → Chained ns ks → Innermost t₁ ns ks (inner - 1)
+      go : (ks : List ℕ) → inner ≡ parent_of ks → OpenChain ns ks → Innermost t₁ ns ks (inner - 1)
       go [] i c = absurd (omega arith)
       go (k ∷ ks) i c =
           let q : inner - 1 ≡ k = omega arith in
@@ -75,7 +75,7 @@ module _ {t₁ t hd : List ℕ} {ns : List Node} {hs : List ℕ} {inner : ℕ} (
 
   -- the node x in a row more, with the open tags ks
   pub rows_next : (x : Node) {ks : List ℕ} {count inner' : ℕ} {t₂ : List ℕ} → Written t₁ count x t₂ → count ≡ length ns
-      → Chained (ns ++ (x ∷ [])) ks → inner' ≡ parent_of ks → Rows t₂ t hd (ns ++ (x ∷ [])) ks inner'
+      → OpenChain (ns ++ (x ∷ [])) ks → inner' ≡ parent_of ks → Rows t₂ t hd (ns ++ (x ∷ [])) ks inner'
   rows_next x {ks} {count} W n c i =
       record {
         filled = filled_next S.filled count x W.words n (omega (arith, W.room, filled_size S.filled));

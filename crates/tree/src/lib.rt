@@ -8,7 +8,7 @@ ghost use Rattle.rules.specs.Scan.{pick, part, same};
 ghost use Rattle.rules.specs.Reader.{Reading, pushed, leaf, ended_by, put as put_item};
 ghost use Rattle.rules.specs.Profile.{page_limit, void_of};
 ghost use Rattle.rules.specs.declared.Item.TheVariants.{Tag, Close};
-ghost use Rattle.tree.specs.Held.{Step, Room, Inner, Within, Fits, Registered, moved_to, added_to, version_to, Open, Settled};
+ghost use Rattle.tree.specs.Held.{Step, RowRoom, Inner, IsPart, Fits, Registered, moved_to, added_to, version_to, Open, Settled};
 
 use profile::VoidNames;
 use rules::{Ended, HTML5, Item, Kind, Node, State};
@@ -71,7 +71,7 @@ fn put_leaf(
     end: usize,
     next: usize,
 ) -> Option<State>
-    requires { Room table.old s × Within page_limit start end }
+    requires { RowRoom table.old s × IsPart page_limit start end }
     ensures { Step (λ (R : Reading). pushed R (leaf R kind start end) next) table.old s table.new result }
 {
     let h = s.count;
@@ -127,7 +127,7 @@ fn put_tag(
     next: usize,
     slash: bool,
 ) -> Option<State>
-    requires { Room table.old s × Fits (length page.now) s.at (Tag a e next slash) × (length page.now ≤ page_limit) }
+    requires { RowRoom table.old s × Fits (length page.now) s.at (Tag a e next slash) × (length page.now ≤ page_limit) }
     ensures { Step (λ (R : Reading). put_item (void_of void.now.profile.bytes.now) page.now R (Tag a e next slash)) table.old s table.new result }
 {
     let h = s.count;
@@ -154,7 +154,7 @@ fn put_tag(
 
 // Whether a tag's row has the closing name from a to e. Page and node go as two: a node is words alone, and holds no page.
 fn has_name(page: &[u8], n: Node, a: usize, e: usize) -> bool
-    requires { Within (length page.now) n.name n.stop × Within (length page.now) a e }
+    requires { IsPart (length page.now) n.name n.stop × IsPart (length page.now) a e }
     ensures { result ≡ same (part page.now n.name n.stop) (part page.now a e) }
 {
     let x = n.name as usize;
@@ -164,7 +164,7 @@ fn has_name(page: &[u8], n: Node, a: usize, e: usize) -> bool
 
 // A closing name from a to e: the innermost open tag is closed if it has that name, and no other is looked at.
 fn close_tag(table: &mut [u32], page: &[u8], s: State, a: usize, e: usize, next: usize) -> State
-    requires { Room table.old s
+    requires { RowRoom table.old s
         × Inner table.old s (length page.now)
         × Fits (length page.now) s.at (Close a e next)
         × (length page.now ≤ page_limit) }
@@ -191,7 +191,7 @@ fn close_tag(table: &mut [u32], page: &[u8], s: State, a: usize, e: usize, next:
 
 // Puts what stands at the state's place into the table; `None` where there is no room for its row.
 pub fn put(table: &mut [u32], void: &VoidNames, page: &[u8], s: State, item: Item) -> Option<State>
-    requires { Room table.old s
+    requires { RowRoom table.old s
         × Inner table.old s (length page.now)
         × Fits (length page.now) s.at item
         × (length page.now ≤ page_limit) }

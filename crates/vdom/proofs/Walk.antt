@@ -1,5 +1,5 @@
--- A walk over handles, one by one: what is found among k handles, and the buffer into which that is written.
-use Rattle.std.proofs.Common.{Option, Some, None, MatchOption, Ok, Err}
+-- A walk over handles: the first that passes a test, and the buffer into which those that pass are written one after the other.
+use Rattle.std.proofs.Common.{Some, None, Ok, Err}
 use mathlib.Core.Path.{◌≡◌, refl, ap, sym, ◌∙◌}
 use mathlib.Core.Bool.{Bool, true, false}
 use mathlib.Core.List.{List, [], ◌∷◌, ◌++◌, append_assoc, append-nil}
@@ -15,106 +15,98 @@ use Rattle.rules.specs.Answers.{first_found}
 use Rattle.rules.specs.declared.Refusal.TheVariants.{BufferTooShort}
 use Rattle.rules.proofs.Lists.{from_append, only_append}
 
+some_same : {a b : ℕ} → Some a ≡ Some b → a ≡ b
+some_same e = cc
+
+-- ---- among k numbers from m on
+
+module _ (f : ℕ → Bool) where
+  -- one number more, which passes or not
+  pub one_more : (m k : ℕ) → only f (from m (k + 1)) ≡ only f (from m k) ++ only f ((m + k) ∷ [])
+  unfolding from
+  one_more m k = rw (from_append m k 1, only_append f (from m k) (from (m + k) 1))
+
+  pub nothing : (m : ℕ) → only f (from m 0) ≡ []
+  unfolding from only
+  nothing m = refl
+
+  pub passed : (m k : ℕ) → only f (from m k) ≡ [] → f (m + k) ≡ false → only f (from m (k + 1)) ≡ []
+  unfolding only
+  passed m k e t = rw (one_more m k, e, t)
+
+  -- after k that do not pass comes h, which does: it is the first of what passes
+  pub found_after : (m k h n : ℕ) → h ≡ m + k → k < n → only f (from m k) ≡ [] → f h ≡ true → Some h ≡ first_found (only f (from m n))
+  unfolding from only
+  found_after m k h n q l e t =
+      let cut : n ≡ k + suc (n - suc k) = omega arith in
+      rw (cut, from_append m k (suc (n - suc k)), only_append f (from m k) (from (m + k) (suc (n - suc k))), e, ← q, t)
+
+  -- if h is the first of what passes, the rest comes after it
+  pub rest_after : (m n h : ℕ) → Some h ≡ first_found (only f (from m n)) → only f (from m n) ≡ h ∷ only f (from (h + 1) (m + n - (h + 1)))
+  unfolding from only
+  rest_after m zero h e = let z : ◌≡◌ {A = ℕ} 0 1 = cc in absurd (omega arith)
+  rest_after m (suc n) h e = go (f m) refl (rest_after (suc m) n h)
+    where
+      go : (b : Bool) → f m ≡ b
+          → (Some h ≡ first_found (only f (from (suc m) n)) → only f (from (suc m) n) ≡ h ∷ only f (from (h + 1) (suc m + n - (h + 1))))
+          → only f (from m (suc n)) ≡ h ∷ only f (from (h + 1) (m + suc n - (h + 1)))
+      go true t on =
+          let q : h ≡ m = some_same (e ∙ rw t) in
+          let k : m + suc n - (h + 1) ≡ n = omega arith in
+          rw (t, k, q, add-one)
+      go false t on =
+          let k : m + suc n - (h + 1) ≡ suc m + n - (h + 1) = omega arith in
+          rw (t, k) (on (e ∙ rw t))
+
+pub none_passed : {xs : List ℕ} → xs ≡ [] → None ≡ first_found xs
+none_passed e = rw e
+
+pub none_found : (xs : List ℕ) → None ≡ first_found xs → xs ≡ []
+none_found [] e = refl
+none_found (h ∷ hs) e = let z : ◌≡◌ {A = ℕ} 0 1 = cc in absurd (omega arith)
+
+-- ---- what was found, before what is left of the whole, is n numbers, which stand in the lent buffer out₀, which is now out
+
+pub record Walked (whole out₀ out : List ℕ) (n : ℕ) (left : List ℕ) : Type 0 where
+  pub found : List ℕ
+  pub is : whole ≡ found ++ left
+  pub number : n ≡ length found
+  pub room : n ≤ length out₀
+  pub buffer : out ≡ found ++ drop n out₀
+
 -- x is stored after xs, which stands at the front of d
 store : (xs d : List ℕ) (n x : ℕ) → length xs ≡ n → n < length d → set (xs ++ drop n d) n x ≡ (xs ++ (x ∷ [])) ++ drop (n + 1) d
 store xs d n x e l =
     rw (drop-cons d n 0 l, set_at xs (get_or d n 0) (drop (suc n) d) x n e, add-one) (sym (append_assoc xs (x ∷ []) (drop (suc n) d)))
 
-module _ (f : ℕ → Bool) (lo : ℕ) where
-  -- found among the first k handles
-  abbrev pub among : ℕ → List ℕ
-  among k = only f (from lo k)
+pub walk_none : (whole out : List ℕ) → Walked whole out out 0 whole
+walk_none whole out = record { found = []; is = refl; number = refl; room = omega arith; buffer = refl }
 
-  -- h is the next handle
-  module _ (k h : ℕ) (q : h ≡ lo + k) where
-    more : among (k + 1) ≡ among k ++ only f (h ∷ [])
-    unfolding from
-    more = rw (from_append lo k 1, only_append f (from lo k) (from (lo + k) 1), q)
+module _ {whole out₀ out left : List ℕ} {n : ℕ} (w : Walked whole out₀ out n left) where
+  pub walk_size : length out ≡ length out₀
+  walk_size = ap length w.buffer ∙ length-append w.found (drop n out₀) ∙ (simp length-drop (omega (arith, w.number, w.room)))
 
-    pub hit : f h ≡ true → among (k + 1) ≡ among k ++ (h ∷ [])
-    unfolding only
-    hit t = more ∙ rw t
-
-    pub miss : f h ≡ false → among (k + 1) ≡ among k
-    unfolding only
-    miss t = more ∙ rw t (append-nil (among k))
-
-    -- of all, those before h, h, and those after it
-    pub cut : (count : ℕ) → k < count → f h ≡ true
-        → among count ≡ among k ++ (h ∷ only f (from (lo + (k + 1)) (count - (k + 1))))
-    cut count l t =
-        let m : count ≡ k + 1 + (count - (k + 1)) = omega arith in
-        let rest : List ℕ = from (lo + (k + 1)) (count - (k + 1)) in
-        ap among m
-        ∙ ap (only f) (from_append lo (k + 1) (count - (k + 1)))
-        ∙ only_append f (from lo (k + 1)) rest
-        ∙ ap (λ (xs : List ℕ). xs ++ only f rest) (hit t)
-        ∙ append_assoc (among k) (h ∷ []) (only f rest)
-
-    -- the first that is found
-    pub first_hit : (count : ℕ) → k < count → f h ≡ true → among k ≡ [] → Some h ≡ first_found (among count)
-    first_hit count l t e = rw (cut count l t, e)
-
-  -- none is found
-  none_among : (k : ℕ) → ((j : ℕ) → lo ≤ j → j < lo + k → f j ≡ false) → among k ≡ []
-  unfolding from only
-  none_among zero t = refl
-  none_among (suc k) t =
-      let z : suc k ≡ k + 1 = omega arith in
-      ap among z ∙ miss k (lo + k) refl (t (lo + k) (omega arith) (omega arith)) ∙ none_among k (λ j l m. t j l (omega arith))
-
-  -- what was found among k handles, n of them, stands in the lent buffer out₀, which is now out
-  pub record Walked (out₀ out : List ℕ) (n k : ℕ) : Type 0 where
-    pub number : n ≡ length (among k)
-    pub room : n ≤ length out₀
-    pub buffer : out ≡ among k ++ drop n out₀
-
-  pub walk_none : (out : List ℕ) → Walked out out 0 0
-  unfolding from only
-  walk_none out = record { number = refl; room = omega arith; buffer = refl }
-
-  module _ {out₀ out : List ℕ} {n k : ℕ} (w : Walked out₀ out n k) where
-    pub walk_size : length out ≡ length out₀
-    walk_size =
-        ap length w.buffer ∙ length-append (among k) (drop n out₀) ∙ (simp length-drop (omega (arith, w.number, w.room)))
-
-    module _ (h : ℕ) (q : h ≡ lo + k) where
-      pub walk_hit : {out₁ : List ℕ} {n₁ : ℕ} → f h ≡ true → n < length out → out₁ ≡ set out n h → n₁ ≡ n + 1 → Walked out₀ out₁ n₁ (k + 1)
-      walk_hit {out₁} {n₁} t l e m =
-          let b : n < length out₀ = omega (arith, walk_size) in
-          let y : length (among (k + 1)) ≡ length (among k) + 1 = ap length (hit k h q t) ∙ length-append (among k) (h ∷ []) in
-          record {
-            number = omega (arith, w.number);
-            room = omega arith;
-            buffer = e ∙ ap (λ (d : List ℕ). set d n h) w.buffer ∙ store (among k) out₀ n h (sym w.number) b ∙ rw (hit k h q t, m);
-          }
-
-      pub walk_miss : {out₁ : List ℕ} {n₁ : ℕ} → f h ≡ false → out₁ ≡ out → n₁ ≡ n → Walked out₀ out₁ n₁ (k + 1)
-      walk_miss t e m = rw (e, m) (record { number = rw (miss k h q t) w.number; room = w.room; buffer = rw (miss k h q t) w.buffer })
-
-      -- h is found too, and there is no room for it
-      pub walk_short : {left : List ℕ} (count : ℕ) → k < count → f h ≡ true → length out ≤ n → left ≡ replicate (length out) 0
-          → Counts (among count) out₀ (Err BufferTooShort) left
-      walk_short count l t b e =
-          let rest : List ℕ = only f (from (lo + (k + 1)) (count - (k + 1))) in
-          let y : length (among count) ≡ length (among k) + suc (length rest) = ap length (cut k h q count l t) ∙ length-append (among k) (h ∷ rest) in
-          let z : length out₀ < length (among count) = omega (arith, walk_size, w.number) in
-          record { is = rw (lt-ltb (length out₀) (length (among count)) z); left = e ∙ rw walk_size }
-
-    -- all handles were passed
-    pub walk_end : (count : ℕ) → k ≡ count → Counts (among count) out₀ (Ok n) out
-    walk_end count q =
-        let z : length (among count) ≤ length out₀ = rw (← q, ← w.number) w.room in
-        let m : n ≡ length (among count) = rw (← q) w.number in
+  module _ {h : ℕ} {rest : List ℕ} (next : left ≡ h ∷ rest) where
+    pub walk_on : n < length out → Walked whole out₀ (set out n h) (n + 1) rest
+    walk_on l =
         record {
-          is = rw (le-ltb (length out₀) (length (among count)) z, m);
-          left = w.buffer ∙ rw (q, m);
+          found = w.found ++ (h ∷ []);
+          is = w.is ∙ rw next (sym (append_assoc w.found (h ∷ []) rest));
+          number = omega (arith, w.number, length-append w.found (h ∷ []));
+          room = omega (arith, walk_size);
+          buffer = ap (λ (d : List ℕ). set d n h) w.buffer ∙ store w.found out₀ n h (sym w.number) (omega (arith, walk_size));
         }
 
--- what a search over the numbers below count answers: the first that passes, or that none does
-pub search_first : (f : ℕ → Bool) (count : ℕ) (r : Option ℕ)
-    → MatchOption r ((k : ℕ) → 0 ≤ k → k < count → f k ≡ false)
-    (λ i. (0 ≤ i) × (i < count) × (f i ≡ true) × ((k : ℕ) → 0 ≤ k → k < i → f k ≡ false))
-    → r ≡ first_found (only f (from 0 count))
-search_first f count None none = rw (none_among f 0 count (λ j l m. none j l (omega arith)))
-search_first f count (Some i) s = first_hit f 0 i i (omega arith) count s.1 s.2 (none_among f 0 i (λ j l m. s.3 j l (omega arith)))
+    -- there is no room for it
+    pub walk_short : {done : List ℕ} → length out ≤ n → done ≡ replicate (length out) 0 → Counts whole out₀ (Err BufferTooShort) done
+    walk_short b e =
+        let y : length whole ≡ length w.found + suc (length rest) = ap length w.is ∙ length-append w.found left ∙ rw next in
+        let z : length out₀ < length whole = omega (arith, walk_size, w.number) in
+        record { is = rw (lt-ltb (length out₀) (length whole) z); left = e ∙ rw walk_size }
+
+  -- nothing is left
+  pub walk_end : left ≡ [] → Counts whole out₀ (Ok n) out
+  walk_end e =
+      let all : whole ≡ w.found = w.is ∙ rw e (append-nil w.found) in
+      let z : length whole ≤ length out₀ = rw (all, ← w.number) w.room in
+      record { is = rw (le-ltb (length out₀) (length whole) z, all, w.number); left = w.buffer ∙ rw (all, w.number) }

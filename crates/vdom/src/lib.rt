@@ -1,20 +1,19 @@
-// Lookups by id and class in the scan manner, and queries (vdom, queryselector/iter): walks over the handles of a document.
+// Lookups by id and class in the scan manner, and queries (vdom, queryselector/iter): one walk over the handles of a document.
 // `t` is the lent table of marks.
 
 #![tactic(auto)]
 
-ghost use Rattle.std.specs.Prelude.{◌≡◌, Bool, ℕ, ◌-◌, ◌≤◌, ◌<◌};
-ghost use Rattle.rules.specs.Lists.{from, only};
-ghost use Rattle.rules.specs.Table.{node_at};
+ghost use Rattle.std.specs.Prelude.{◌≡◌, Bool, ℕ, ◌-◌, ◌^◌, ◌≤◌, ◌<◌, IfSome};
+ghost use Rattle.rules.specs.Lists.{from};
 ghost use Rattle.rules.specs.Sound.{count_of};
-ghost use Rattle.rules.specs.Finds.{by_id, by_class};
-ghost use Rattle.rules.specs.Query.{matches};
+ghost use Rattle.rules.specs.Finds.{passing, by_id, by_class};
+ghost use Rattle.rules.specs.Query.{among};
 ghost use Rattle.rules.specs.Refusals.{Counts};
 ghost use Rattle.rules.specs.Answers.{first_found};
 ghost use Rattle.rules.specs.declared.Node.{Node};
 ghost use Rattle.scan.specs.Marks.{white_in};
 ghost use Rattle.piece.specs.Words.{pieces_from};
-ghost use Rattle.matching.specs.Matching.{Placed};
+ghost use Rattle.matching.specs.Matching.{OpeningInPage};
 
 use piece::Chain;
 use rules::{Manner, Node, Refusal};
@@ -22,29 +21,47 @@ use scan::Marks;
 use sound::Document;
 use std::ops::Range;
 
-// The walk over handles, a range of the document's: `query` and its caller ask for that too, since a `Range` knows no document. It writes those
-// whose node passes the test into out, in order, or clears out where it has no room.
+// The one walk, over a range of the document's handles: on to the first whose node passes the test. Its callers ask that of the range too, since
+// a `Range` knows no document.
+fn find_next<F: Fn(Node) -> bool>(d: &Document, handles: Range<usize>, test: &F) -> Option<usize>
+    requires rows { (handles.start ≤ handles.end) × (handles.end ≤ count_of d.now.table.now) }
+    requires test { (n : Node) → OpeningInPage d.now.page.now n → F.pre test.now n }
+    ensures within { IfSome result (λ h. (handles.start ≤ h) × (h < handles.end) × (h < 2 ^ 32)) }
+    ensures first { let all = from handles.start (handles.end - handles.start) in
+        (P : Node → Bool) → ((n : Node) (b : Bool) → F.post test.now n b → b ≡ P n)
+        → result ≡ first_found (passing P d.now.table.now all) }
+{
+    for h in handles {
+        if test(d.row(h)) {
+            return Some(h);
+        }
+    }
+    None
+}
+
+// Writes those whose node passes the test into out, in order, or clears out where it has no room.
 fn find_all<F: Fn(Node) -> bool>(
     d: &Document,
     handles: Range<usize>,
-    test: F,
+    test: &F,
     out: &mut [u32],
 ) -> Result<usize, Refusal>
     requires rows { (handles.start ≤ handles.end) × (handles.end ≤ count_of d.now.table.now) }
-    requires test { (n : Node) → Placed d.now.page.now n → F.pre test n }
-    ensures { let ws = d.now.table.now in
-        (P : Node → Bool) → ((n : Node) (b : Bool) → F.post test n b → b ≡ P n)
-        → Counts (only (λ h. P (node_at ws h)) (from handles.start (handles.end - handles.start))) out.old result out.new }
+    requires test { (n : Node) → OpeningInPage d.now.page.now n → F.pre test.now n }
+    ensures { let all = from handles.start (handles.end - handles.start) in
+        (P : Node → Bool) → ((n : Node) (b : Bool) → F.post test.now n b → b ≡ P n)
+        → Counts (passing P d.now.table.now all) out.old result out.new }
 {
     let mut n = 0;
-    for h in handles {
-        if test(d.row(h)) {
-            if out.len() <= n {
-                return table::refuse(out, Refusal::BufferTooShort);
-            }
-            out[n] = h as u32;
-            n += 1;
+    let mut rest = handles;
+    // A turn is as long as the way to the next find: there is no index to count.
+    while let Some(h) = find_next(d, rest.start..rest.end, test) {
+        if out.len() <= n {
+            return table::refuse(out, Refusal::BufferTooShort);
         }
+        out[n] = h as u32;
+        n += 1;
+        rest.start = h + 1;
     }
     Ok(n)
 }
@@ -53,7 +70,11 @@ fn find_all<F: Fn(Node) -> bool>(
 pub fn id_scan(t: &Marks, d: &Document, name: &[u8]) -> Option<usize>
     ensures { result ≡ first_found (by_id (white_in t.now) d.now.page.now d.now.table.now Manner.Scan name.now) }
 {
-    (0..d.count()).find(|&h| matching::has_id(t, d.page, d.row(h), name))
+    find_next(
+        d,
+        0..d.count(),
+        &|n: Node| matching::has_id(t, d.page, n, name),
+    )
 }
 
 // get_elements_by_class_name: each tag once.
@@ -62,7 +83,7 @@ pub fn class_scan(t: &Marks, d: &Document, name: &[u8], out: &mut [u32]) -> Resu
         Counts finds out.old result out.new }
 {
     let holds = |n: Node| matching::class_times(t, d.page, n, name) != 0;
-    find_all(d, 0..d.count(), holds, out)
+    find_all(d, 0..d.count(), &holds, out)
 }
 
 // query_selector over these handles.
@@ -75,9 +96,10 @@ pub fn query(
 ) -> Result<usize, Refusal>
     requires { (handles.start ≤ handles.end) × (handles.end ≤ count_of d.now.table.now) }
     ensures { let k = chain.now in
-        let fits = matches (white_in t.now) d.now.page.now d.now.table.now k.text.now (pieces_from k.pieces k.words.now 0) in
-        Counts (only fits (from handles.start (handles.end - handles.start))) out.old result out.new }
+        let all = from handles.start (handles.end - handles.start) in
+        let finds = among (white_in t.now) d.now.page.now d.now.table.now k.text.now all (pieces_from k.pieces k.words.now 0) in
+        Counts finds out.old result out.new }
 {
     let matches = |n: Node| matching::matches(t, d.page, n, chain);
-    find_all(d, handles, matches, out)
+    find_all(d, handles, &matches, out)
 }

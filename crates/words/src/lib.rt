@@ -6,8 +6,7 @@
 
 ghost use Rattle.std.specs.Prelude.{◌≡◌, [], drop};
 ghost use Rattle.std.specs.Int.{from_bool};
-ghost use Rattle.rules.specs.Words.{begins, ends, word, has_word};
-ghost use Rattle.rules.specs.Words.{words as words_of, contains as holds, times as times_in};
+ghost use Rattle.rules.specs.Words.{begins, ends, word, has_word, words as words_of, contains as holds, times as times_in};
 ghost use Rattle.words.specs.Separators.{separators, separator_of};
 
 use constants::is_same;

@@ -1,12 +1,20 @@
-//! This version beside another one, whose calls take no profile: `tools/bench/run --before`.
-pub mod sys;
+//! This version beside another one, both by tl's profile: `tools/bench/run --before`.
+
+/// The other version's calls, declared as this one's in `tl_rattle::sys`, from whose text build.rs makes this. Not all are asked.
+#[allow(dead_code)]
+pub mod sys {
+    use tl_rattle::sys::tl_profile;
+
+    include!(concat!(env!("OUT_DIR"), "/before.rs"));
+}
 
 use crate::ours::{in_turns, Calls, Names, Reader, BY_TLS, CLOSED, SCAN};
 use crate::pages::Page;
 use crate::timing::micros;
+use tl_rattle::Profile;
 
-/// The version before, and this one by tl's profile.
-const BOTH: [Calls; 2] = [Calls::Before, BY_TLS];
+/// The version before, and this one.
+const BOTH: [Calls; 2] = [Calls::Before(&Profile::TL), BY_TLS];
 
 /// What is asked, and how.
 type Ask<'p> = (&'static str, Box<dyn Fn(&mut Reader) + 'p>);

@@ -38,9 +38,9 @@ impl Names {
 pub enum Calls {
     /// This library's, by a profile.
     By(&'static Profile),
-    /// Those of the version before, which take none.
+    /// Those of the version before, by one.
     #[cfg(before)]
-    Before,
+    Before(&'static Profile),
 }
 
 /// This library's, by tl's profile.
@@ -75,7 +75,9 @@ macro_rules! ask {
                 sys::$call(profile.as_raw(), page, many, words, room, $($other),*)
             },
             #[cfg(before)]
-            Calls::Before => unsafe { before::$call(page, many, words, room, $($other),*) },
+            Calls::Before(profile) => unsafe {
+                before::$call(profile.as_raw(), page, many, words, room, $($other),*)
+            },
         };
         assert_eq!(refused, 0);
     }};

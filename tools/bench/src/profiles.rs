@@ -54,7 +54,11 @@ pub fn of_one_call() {
         ("a sender's own", Calls::By(&OWN)),
         ("24 names of 16 bytes", Calls::By(&FULL)),
         #[cfg(before)]
-        ("none, the version before", Calls::Before),
+        ("before: tl's profile", Calls::Before(&Profile::TL)),
+        #[cfg(before)]
+        ("before: a sender's own", Calls::Before(&OWN)),
+        #[cfg(before)]
+        ("before: 24 names of 16 bytes", Calls::Before(&FULL)),
     ];
     println!("\n### what a call takes with next to nothing to do, ns\n");
     let heads = ways.map(|(head, _)| head).join(" | ");

@@ -4,8 +4,8 @@
 use crate::lists::{self, List, Source};
 use crate::model::{class_words, Asked, Names, PAPER};
 use crate::question::Question;
-use crate::random::Random;
 use crate::selectors::{self, Words};
+use common::Random;
 use std::collections::BTreeSet;
 
 /// At most so many tags are asked for ranges and texts, and so many lookups of attributes are made.

@@ -7,6 +7,7 @@
 mod lists;
 
 use crate::asks::Asks;
+use crate::ffi::LentProfile;
 use crate::findings::{Departure, Difference, Findings};
 use crate::model::{
     self, tl_profile, Asked, Manner, Piece, Profile, ProfileBytes, Reading, Row, Way, PAPER,
@@ -14,20 +15,20 @@ use crate::model::{
 };
 use crate::ours::{self, Answer, Ours, Refusal};
 use crate::question::Question;
-use crate::random::Random;
 use crate::tl_side::{self, as_str, TlPage, TlRow};
+use common::Random;
 use std::fmt::Debug;
 
 /// Reads a page under tl's profile on all sides and asks what `asks` names.
 pub fn page(page: &[u8], asks: impl FnOnce(&Asked) -> Asks, random: &mut Random) -> Findings {
     let tl = TlPage::read(as_str(page));
-    reading(page, &TL_BYTES, Some(tl), asks, random)
+    reading(page, &LentProfile::alone(&TL_BYTES), Some(tl), asks, random)
 }
 
 /// The same under any profile, beside the model alone.
 pub fn page_under(
     page: &[u8],
-    profile: &ProfileBytes,
+    profile: &LentProfile,
     asks: impl FnOnce(&Asked) -> Asks,
     random: &mut Random,
 ) -> Findings {
@@ -36,12 +37,12 @@ pub fn page_under(
 
 fn reading<'p>(
     page: &'p [u8],
-    profile: &'p ProfileBytes,
+    profile: &'p LentProfile,
     tl: Option<TlPage<'p>>,
     asks: impl FnOnce(&Asked) -> Asks,
     random: &mut Random,
 ) -> Findings {
-    let rules = Rules::of(profile, page);
+    let rules = Rules::of(&profile.bytes, page);
     let reading = model::read(page, &rules.profile);
     let words = model::words_of(page.len(), &reading);
     // Words after the last row mean nothing.
@@ -50,7 +51,7 @@ fn reading<'p>(
     let mut run = Run {
         asked: Asked::new(page, &reading.rows, &rules.profile),
         ours: Ours {
-            profile,
+            profile: &profile.raw,
             page,
             table: &table,
         },
@@ -78,13 +79,13 @@ pub fn table(
     asks: impl FnOnce(&Asked) -> Asks,
     random: &mut Random,
 ) -> Findings {
-    asking(page, &TL_BYTES, table, asks, random)
+    asking(page, &LentProfile::alone(&TL_BYTES), table, asks, random)
 }
 
 /// The same under any profile.
 pub fn table_under(
     page: &[u8],
-    profile: &ProfileBytes,
+    profile: &LentProfile,
     table: &[u32],
     asks: impl FnOnce(&Asked) -> Asks,
     random: &mut Random,
@@ -94,12 +95,12 @@ pub fn table_under(
 
 fn asking(
     page: &[u8],
-    profile: &ProfileBytes,
+    profile: &LentProfile,
     table: &[u32],
     asks: impl FnOnce(&Asked) -> Asks,
     random: &mut Random,
 ) -> Findings {
-    let rules = Rules::of(profile, page);
+    let rules = Rules::of(&profile.bytes, page);
     let sound = model::reading_of(page.len(), table);
     let refusal = rules.refusal.or(sound.is_none().then_some(3));
     // Of a table that is not sound anything may be asked; the refusal comes first.
@@ -107,7 +108,7 @@ fn asking(
     let mut run = Run {
         asked: Asked::new(page, &reading.rows, &rules.profile),
         ours: Ours {
-            profile,
+            profile: &profile.raw,
             page,
             table,
         },

@@ -1,5 +1,5 @@
 //! Execution pages as counterparties send them: several templates, filled at random.
-use crate::random::Random;
+use common::Random;
 use std::fmt::Write;
 
 const VENUES: [&str; 9] = [

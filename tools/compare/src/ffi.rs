@@ -1,162 +1,41 @@
-//! The library's calls as include/tl.h declares them, and for each a function on slices. A refusal is an error with its number.
+//! The library's calls, as its own crate declares them (`tl_rattle::sys`), each as a function on slices. The crate's functions are not
+//! asked, since they hand back nothing of a refusal but what it is. Here a refusal comes with its number, whatever that is, and with
+//! what the call has left.
 //!
 //! The header asks only that a pointer is not null, aligned, and good for as many entries as the length says, and that what
-//! is written overlaps nothing else; Rust's slices are always so, empty ones too. A profile has no length beside it: it is always
-//! of 392 bytes.
+//! is written overlaps nothing else; Rust's slices and references are always so, empty slices too.
 use crate::model::ProfileBytes;
+use tl_rattle::sys::{self, tl_profile};
+use tl_rattle::Profile;
 
-mod raw {
-    extern "C" {
-        pub fn tl_parse(
-            profile: *const u8,
-            page: *const u8,
-            page_len: usize,
-            table: *mut u32,
-            table_len: usize,
-            count: *mut usize,
-        ) -> u32;
+/// A profile's bytes, and the same as the calls take it: at a place that is aligned for its limit, with other bytes before and after
+/// it, so that one that is read beyond its ends would show.
+#[repr(C)]
+pub struct LentProfile {
+    pub bytes: ProfileBytes,
+    before: [u8; AROUND],
+    pub raw: tl_profile,
+    after: [u8; AROUND],
+}
 
-        pub fn tl_range(
-            profile: *const u8,
-            page: *const u8,
-            page_len: usize,
-            table: *const u32,
-            table_len: usize,
-            handle: usize,
-            answer: *mut [usize; 3],
-        ) -> u32;
+/// At most so many bytes stand before a lent profile, and as many after it.
+const AROUND: usize = 16;
 
-        pub fn tl_attribute(
-            profile: *const u8,
-            page: *const u8,
-            page_len: usize,
-            table: *const u32,
-            table_len: usize,
-            handle: usize,
-            name: *const u8,
-            name_len: usize,
-            answer: *mut [usize; 3],
-        ) -> u32;
+impl LentProfile {
+    pub fn among(before: &[u8], bytes: &ProfileBytes, after: &[u8]) -> LentProfile {
+        let mut lent = LentProfile {
+            bytes: *bytes,
+            before: [0; AROUND],
+            raw: *Profile::from_bytes(bytes).as_raw(),
+            after: [0; AROUND],
+        };
+        lent.before[AROUND - before.len()..].copy_from_slice(before);
+        lent.after[..after.len()].copy_from_slice(after);
+        lent
+    }
 
-        pub fn tl_inner_text(
-            profile: *const u8,
-            page: *const u8,
-            page_len: usize,
-            table: *const u32,
-            table_len: usize,
-            handle: usize,
-            out: *mut u8,
-            out_len: usize,
-            count: *mut usize,
-        ) -> u32;
-
-        pub fn tl_get_element_by_id(
-            profile: *const u8,
-            page: *const u8,
-            page_len: usize,
-            table: *const u32,
-            table_len: usize,
-            manner: u32,
-            id: *const u8,
-            id_len: usize,
-            answer: *mut [usize; 2],
-        ) -> u32;
-
-        pub fn tl_get_elements_by_class_name(
-            profile: *const u8,
-            page: *const u8,
-            page_len: usize,
-            table: *const u32,
-            table_len: usize,
-            manner: u32,
-            name: *const u8,
-            name_len: usize,
-            out: *mut u32,
-            out_len: usize,
-            count: *mut usize,
-        ) -> u32;
-
-        pub fn tl_parse_query_selector(
-            selector: *const u8,
-            selector_len: usize,
-            out: *mut u32,
-            out_len: usize,
-            count: *mut usize,
-        ) -> u32;
-
-        pub fn tl_query_selector(
-            profile: *const u8,
-            page: *const u8,
-            page_len: usize,
-            table: *const u32,
-            table_len: usize,
-            selector: *const u8,
-            selector_len: usize,
-            out: *mut u32,
-            out_len: usize,
-            count: *mut usize,
-        ) -> u32;
-
-        pub fn tl_query_selector_below(
-            profile: *const u8,
-            page: *const u8,
-            page_len: usize,
-            table: *const u32,
-            table_len: usize,
-            handle: usize,
-            selector: *const u8,
-            selector_len: usize,
-            out: *mut u32,
-            out_len: usize,
-            count: *mut usize,
-        ) -> u32;
-
-        pub fn tl_attributes(
-            profile: *const u8,
-            page: *const u8,
-            page_len: usize,
-            table: *const u32,
-            table_len: usize,
-            handles: *const u32,
-            handles_len: usize,
-            name: *const u8,
-            name_len: usize,
-            out: *mut u32,
-            out_len: usize,
-            count: *mut usize,
-        ) -> u32;
-
-        pub fn tl_attributes_for_names(
-            profile: *const u8,
-            page: *const u8,
-            page_len: usize,
-            table: *const u32,
-            table_len: usize,
-            handles: *const u32,
-            handles_len: usize,
-            names: *const u8,
-            names_len: usize,
-            ends: *const usize,
-            ends_len: usize,
-            out: *mut u32,
-            out_len: usize,
-            count: *mut usize,
-        ) -> u32;
-
-        pub fn tl_inner_texts(
-            profile: *const u8,
-            page: *const u8,
-            page_len: usize,
-            table: *const u32,
-            table_len: usize,
-            handles: *const u32,
-            handles_len: usize,
-            ends: *mut usize,
-            ends_len: usize,
-            out: *mut u8,
-            out_len: usize,
-            count: *mut usize,
-        ) -> u32;
+    pub fn alone(bytes: &ProfileBytes) -> LentProfile {
+        LentProfile::among(b"", bytes, b"")
     }
 }
 
@@ -176,10 +55,10 @@ fn call<const N: usize>(with: impl FnOnce(&mut [usize; N]) -> u32) -> Said<N> {
     Said { refusal, numbers }
 }
 
-pub fn parse(profile: &ProfileBytes, page: &[u8], table: &mut [u32]) -> Said<1> {
+pub fn parse(profile: &tl_profile, page: &[u8], table: &mut [u32]) -> Said<1> {
     call(|[count]| unsafe {
-        raw::tl_parse(
-            profile.as_ptr(),
+        sys::tl_parse(
+            profile,
             page.as_ptr(),
             page.len(),
             table.as_mut_ptr(),
@@ -189,30 +68,30 @@ pub fn parse(profile: &ProfileBytes, page: &[u8], table: &mut [u32]) -> Said<1> 
     })
 }
 
-pub fn range(profile: &ProfileBytes, page: &[u8], table: &[u32], handle: usize) -> Said<3> {
+pub fn range(profile: &tl_profile, page: &[u8], table: &[u32], handle: usize) -> Said<3> {
     call(|answer| unsafe {
-        raw::tl_range(
-            profile.as_ptr(),
+        sys::tl_range(
+            profile,
             page.as_ptr(),
             page.len(),
             table.as_ptr(),
             table.len(),
             handle,
-            answer,
+            answer.as_mut_ptr(),
         )
     })
 }
 
 pub fn attribute(
-    profile: &ProfileBytes,
+    profile: &tl_profile,
     page: &[u8],
     table: &[u32],
     handle: usize,
     name: &[u8],
 ) -> Said<3> {
     call(|answer| unsafe {
-        raw::tl_attribute(
-            profile.as_ptr(),
+        sys::tl_attribute(
+            profile,
             page.as_ptr(),
             page.len(),
             table.as_ptr(),
@@ -220,21 +99,21 @@ pub fn attribute(
             handle,
             name.as_ptr(),
             name.len(),
-            answer,
+            answer.as_mut_ptr(),
         )
     })
 }
 
 pub fn inner_text(
-    profile: &ProfileBytes,
+    profile: &tl_profile,
     page: &[u8],
     table: &[u32],
     handle: usize,
     out: &mut [u8],
 ) -> Said<1> {
     call(|[count]| unsafe {
-        raw::tl_inner_text(
-            profile.as_ptr(),
+        sys::tl_inner_text(
+            profile,
             page.as_ptr(),
             page.len(),
             table.as_ptr(),
@@ -248,15 +127,15 @@ pub fn inner_text(
 }
 
 pub fn get_element_by_id(
-    profile: &ProfileBytes,
+    profile: &tl_profile,
     page: &[u8],
     table: &[u32],
     manner: u32,
     id: &[u8],
 ) -> Said<2> {
     call(|answer| unsafe {
-        raw::tl_get_element_by_id(
-            profile.as_ptr(),
+        sys::tl_get_element_by_id(
+            profile,
             page.as_ptr(),
             page.len(),
             table.as_ptr(),
@@ -264,13 +143,13 @@ pub fn get_element_by_id(
             manner,
             id.as_ptr(),
             id.len(),
-            answer,
+            answer.as_mut_ptr(),
         )
     })
 }
 
 pub fn get_elements_by_class_name(
-    profile: &ProfileBytes,
+    profile: &tl_profile,
     page: &[u8],
     table: &[u32],
     manner: u32,
@@ -278,8 +157,8 @@ pub fn get_elements_by_class_name(
     out: &mut [u32],
 ) -> Said<1> {
     call(|[count]| unsafe {
-        raw::tl_get_elements_by_class_name(
-            profile.as_ptr(),
+        sys::tl_get_elements_by_class_name(
+            profile,
             page.as_ptr(),
             page.len(),
             table.as_ptr(),
@@ -296,7 +175,7 @@ pub fn get_elements_by_class_name(
 
 pub fn parse_query_selector(selector: &[u8], out: &mut [u32]) -> Said<1> {
     call(|[count]| unsafe {
-        raw::tl_parse_query_selector(
+        sys::tl_parse_query_selector(
             selector.as_ptr(),
             selector.len(),
             out.as_mut_ptr(),
@@ -307,15 +186,15 @@ pub fn parse_query_selector(selector: &[u8], out: &mut [u32]) -> Said<1> {
 }
 
 pub fn query_selector(
-    profile: &ProfileBytes,
+    profile: &tl_profile,
     page: &[u8],
     table: &[u32],
     selector: &[u8],
     out: &mut [u32],
 ) -> Said<1> {
     call(|[count]| unsafe {
-        raw::tl_query_selector(
-            profile.as_ptr(),
+        sys::tl_query_selector(
+            profile,
             page.as_ptr(),
             page.len(),
             table.as_ptr(),
@@ -330,7 +209,7 @@ pub fn query_selector(
 }
 
 pub fn query_selector_below(
-    profile: &ProfileBytes,
+    profile: &tl_profile,
     page: &[u8],
     table: &[u32],
     handle: usize,
@@ -338,8 +217,8 @@ pub fn query_selector_below(
     out: &mut [u32],
 ) -> Said<1> {
     call(|[count]| unsafe {
-        raw::tl_query_selector_below(
-            profile.as_ptr(),
+        sys::tl_query_selector_below(
+            profile,
             page.as_ptr(),
             page.len(),
             table.as_ptr(),
@@ -355,7 +234,7 @@ pub fn query_selector_below(
 }
 
 pub fn attributes(
-    profile: &ProfileBytes,
+    profile: &tl_profile,
     page: &[u8],
     table: &[u32],
     handles: &[u32],
@@ -363,8 +242,8 @@ pub fn attributes(
     out: &mut [u32],
 ) -> Said<1> {
     call(|[count]| unsafe {
-        raw::tl_attributes(
-            profile.as_ptr(),
+        sys::tl_attributes(
+            profile,
             page.as_ptr(),
             page.len(),
             table.as_ptr(),
@@ -381,7 +260,7 @@ pub fn attributes(
 }
 
 pub fn attributes_for_names(
-    profile: &ProfileBytes,
+    profile: &tl_profile,
     page: &[u8],
     table: &[u32],
     handles: &[u32],
@@ -390,8 +269,8 @@ pub fn attributes_for_names(
     out: &mut [u32],
 ) -> Said<1> {
     call(|[count]| unsafe {
-        raw::tl_attributes_for_names(
-            profile.as_ptr(),
+        sys::tl_attributes_for_names(
+            profile,
             page.as_ptr(),
             page.len(),
             table.as_ptr(),
@@ -410,7 +289,7 @@ pub fn attributes_for_names(
 }
 
 pub fn inner_texts(
-    profile: &ProfileBytes,
+    profile: &tl_profile,
     page: &[u8],
     table: &[u32],
     handles: &[u32],
@@ -418,8 +297,8 @@ pub fn inner_texts(
     out: &mut [u8],
 ) -> Said<1> {
     call(|[count]| unsafe {
-        raw::tl_inner_texts(
-            profile.as_ptr(),
+        sys::tl_inner_texts(
+            profile,
             page.as_ptr(),
             page.len(),
             table.as_ptr(),

@@ -1,7 +1,7 @@
 //! Lists of handles that are asked at once, and the names that their tags are asked for.
 use crate::model::{self, Asked, Manner, Names, PAPER};
-use crate::random::Random;
 use crate::selectors::Words;
+use common::Random;
 
 /// At most so many handles of a list are taken from a page, and so many where it has many rows: for each text the model goes
 /// through all rows below the tag.

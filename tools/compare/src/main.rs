@@ -5,6 +5,8 @@
 
 mod asks;
 mod compare;
+#[cfg(test)]
+mod differences;
 mod execution;
 mod ffi;
 mod findings;
@@ -16,7 +18,6 @@ mod pages;
 mod plan;
 mod profiles;
 mod question;
-mod random;
 mod record;
 mod report;
 mod selectors;

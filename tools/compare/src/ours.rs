@@ -2,7 +2,8 @@
 //! mark before, and what the interface says of buffers is looked at each time: an accepted call fills the first entries and
 //! leaves the rest as it was, a refusal leaves zeros.
 use crate::ffi::{self, Said};
-use crate::model::{Held, Manner, Names, Piece, ProfileBytes, Texts, HEADER_WORDS, ROW_WORDS};
+use crate::model::{Held, Manner, Names, Piece, Texts, HEADER_WORDS, ROW_WORDS};
+use tl_rattle::sys::tl_profile;
 
 /// Why there is no answer.
 #[derive(Clone, Debug, PartialEq, Eq)]
@@ -63,7 +64,7 @@ fn number(manner: Manner, page: &[u8]) -> u32 {
 }
 
 /// Reads a page into a table of so many words; the words that the reading uses.
-pub fn read(profile: &ProfileBytes, page: &[u8], room: usize) -> Answer<Vec<u32>> {
+pub fn read(profile: &tl_profile, page: &[u8], room: usize) -> Answer<Vec<u32>> {
     let mut table = vec![MARK; room];
     let said = ffi::parse(profile, page, &mut table);
     if said.refusal == 0 {
@@ -81,7 +82,7 @@ pub fn read(profile: &ProfileBytes, page: &[u8], room: usize) -> Answer<Vec<u32>
 
 /// A page with a table, to be asked under a profile.
 pub struct Ours<'p> {
-    pub profile: &'p ProfileBytes,
+    pub profile: &'p tl_profile,
     pub page: &'p [u8],
     pub table: &'p [u32],
 }

@@ -1,6 +1,6 @@
 //! Pages of many kinds, and damage done to them and to tables.
 use crate::model::{self, tl_profile, words_for, HEADER_WORDS, PAGE_LIMIT, ROW_WORDS};
-use crate::random::Random;
+use common::Random;
 
 /// The bytes of which every short page is made.
 pub const ALPHABET: [&[u8]; 9] = [b"<", b">", b"/", b"a", b" ", b"=", b"\"", b"!", b"-"];
@@ -27,7 +27,7 @@ pub const PARTS: [&[u8]; 18] = [
     "é".as_bytes(),
 ];
 
-/// The pages that the paper and docs/DIFFERENCES.md name.
+/// Pages that the papers and docs/DIFFERENCES.md name. The inputs of its table are asked by tests (`differences`).
 pub const CHECKED: [&str; 28] = [
     "",
     "a",
@@ -119,8 +119,8 @@ pub fn of_bytes(random: &mut Random) -> Vec<u8> {
     let length = length(random, 40);
     (0..length)
         .map(|_| match random.below(10) < common {
-            true => random.byte_of(COMMON),
-            false => random.byte_of(ALL),
+            true => *random.of(COMMON),
+            false => *random.of(ALL),
         })
         .collect()
 }
@@ -377,7 +377,7 @@ pub fn damage(page: &mut Vec<u8>, random: &mut Random) {
                 let other = random.below(page.len());
                 page.swap(at, other);
             }
-            3 => page[at] = random.byte_of(b"<>/ \n=\"'!-ax"),
+            3 => page[at] = *random.of(b"<>/ \n=\"'!-ax"),
             _ => {
                 let end = (at + random.below(40)).min(page.len());
                 let copy = page[at..end].to_vec();

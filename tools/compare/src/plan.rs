@@ -2,12 +2,13 @@
 //! alone, so a run is the same whatever the number of threads.
 use crate::asks::Asks;
 use crate::compare;
+use crate::ffi::LentProfile;
 use crate::findings::Findings;
 use crate::model::{self, tl_profile, ProfileBytes, PAGE_LIMIT, SELECTOR_LIMIT};
 use crate::profiles::{self, Table, Under};
 use crate::question::Question;
-use crate::random::Random;
 use crate::{execution, pages, selectors};
+use common::Random;
 use std::ops::Range;
 
 #[derive(Clone, Copy, Debug, PartialEq, Eq)]
@@ -151,11 +152,11 @@ impl Batch {
     /// Makes each input of the batch and hands it on, with what is random about asking it.
     pub fn each(&self, seed: u64, mut take: impl FnMut(Input, Random)) {
         for number in self.numbers.clone() {
-            let mut random = Random::of(seed, self.kind as u64, number);
+            let mut random = Random::for_input(seed, self.kind as u64, number);
             if self.kind == Kind::Cuts {
                 let page = execution::page(&mut random);
                 for end in 0..=page.len() {
-                    let again = Random::new(random.next());
+                    let again = Random::new(random.draw());
                     take(Input::Page(page[..end].to_vec(), &[]), again);
                 }
             } else {
@@ -281,7 +282,7 @@ impl Input {
 
     pub fn compare(&self, random: &mut Random) -> Findings {
         // What is asked, and how, are two sources, so that the first does not hang on the second.
-        let mut choice = Random::new(random.next());
+        let mut choice = Random::new(random.draw());
         let also: &[&str] = match self {
             Input::Page(_, also) => also,
             _ => &[],
@@ -306,11 +307,9 @@ impl Input {
             Input::Table(_, table) => compare::table(bytes, table, asks, random),
             Input::Selector(_) => compare::selector(bytes),
             Input::Under(under) => {
-                let (lent, place) = among_others(&under.profile, random);
-                let profile = lent[place]
-                    .try_into()
-                    .expect("as many bytes as a profile has");
-                under.compare(bytes, profile, asks, random)
+                let (before, after) = others(random);
+                let profile = LentProfile::among(before, &under.profile, after);
+                under.compare(bytes, &profile, asks, random)
             }
         }
     }
@@ -367,9 +366,15 @@ impl Input {
 
 /// Bytes with others before and after them, at any place in memory: one that is read beyond their ends would show.
 fn among_others(bytes: &[u8], random: &mut Random) -> (Vec<u8>, Range<usize>) {
+    let (before, after) = others(random);
+    let lent = [before, bytes, after].concat();
+    (lent, before.len()..before.len() + bytes.len())
+}
+
+/// What stands before and after lent bytes.
+fn others(random: &mut Random) -> (&'static [u8], &'static [u8]) {
     const BEFORE: &[u8] = b"<a id=\"<!--<b c=";
     const AFTER: [&[u8]; 4] = [b">\"-->a=b]", b"-->", b"]a", b"html a=b></a>"];
     let before = random.below(BEFORE.len());
-    let lent = [&BEFORE[..before], bytes, random.pick(&AFTER)].concat();
-    (lent, before..before + bytes.len())
+    (&BEFORE[..before], random.pick(&AFTER))
 }

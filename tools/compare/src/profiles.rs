@@ -10,6 +10,7 @@ pub use choose::{refusals, CHANGES};
 use crate::asks::Asks;
 use crate::compare;
 use crate::execution;
+use crate::ffi::LentProfile;
 use crate::findings::Findings;
 use crate::model::{
     self, limit_of, name_place, name_places, set_limit, tl_profile, Asked, Profile, ProfileBytes,
@@ -17,7 +18,7 @@ use crate::model::{
 };
 use crate::pages;
 use crate::plan::Kind;
-use crate::random::Random;
+use common::Random;
 
 /// A page with a profile under which it and a table are asked.
 #[derive(Clone)]
@@ -41,11 +42,11 @@ pub enum Table {
 pub const PARTS: usize = WHITE_BYTES + NAMES + 1;
 
 impl Under {
-    /// Compares with these bytes in place of the page and the profile: they are the same, in another place of memory.
+    /// Compares with these in place of the page and the profile: they are the same, in another place of memory.
     pub fn compare(
         &self,
         page: &[u8],
-        profile: &ProfileBytes,
+        profile: &LentProfile,
         asks: impl FnOnce(&Asked) -> Asks,
         random: &mut Random,
     ) -> Findings {

@@ -15,9 +15,9 @@ use crate::model::{
     ROW_WORDS, SELECTOR_LIMIT,
 };
 use crate::pages;
-use crate::random::Random;
 use crate::selectors;
 use crate::tl_side::{self, TlPage};
+use common::Random;
 use std::fmt::Write as _;
 use std::fs;
 use std::io;
@@ -386,7 +386,7 @@ fn ended_in_other_ways(to: &mut Recording) {
 fn random_pages(to: &mut Recording, seed: u64) {
     let mut kept = 0;
     for index in 0.. {
-        let mut random = Random::of(seed, 99, index);
+        let mut random = Random::for_input(seed, 99, index);
         let page = match index % 5 {
             0 => execution::page(&mut random),
             1 => {
@@ -415,7 +415,7 @@ pub fn record(folder: &Path, seed: u64) -> io::Result<()> {
             questions(
                 &mut to,
                 page.as_bytes(),
-                &mut Random::of(seed, 98, page.len() as u64),
+                &mut Random::for_input(seed, 98, page.len() as u64),
             );
         }
     }

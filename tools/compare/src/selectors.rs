@@ -1,6 +1,6 @@
 //! Selectors: every short one, random ones, and such as may find something in a page.
 use crate::model::SELECTOR_LIMIT;
-use crate::random::Random;
+use common::{identifier_runs, Random};
 use std::collections::BTreeSet;
 
 /// The words of a page, for selectors and lookups.
@@ -161,10 +161,7 @@ fn word<'w>(from: &BTreeSet<&'w [u8]>, others: &[&'w [u8]], random: &mut Random)
 
 /// A part of a value that a selector can name: one of its runs of identifier bytes, perhaps shortened at either end.
 fn run_within<'v>(value: &'v [u8], random: &mut Random) -> &'v [u8] {
-    let runs: Vec<&[u8]> = value
-        .split(|byte| !byte.is_ascii_alphanumeric() && !b"-_:+/".contains(byte))
-        .filter(|run| !run.is_empty())
-        .collect();
+    let runs = identifier_runs(value);
     if runs.is_empty() {
         return b"";
     }

@@ -5,7 +5,7 @@ use crate::guard::guarded;
 use crate::plan::Input;
 use crate::profiles::PARTS;
 use crate::question::Question;
-use crate::random::Random;
+use common::Random;
 
 /// Smaller inputs are tried until they come to so many bytes together.
 const TRIED: usize = 10_000_000;

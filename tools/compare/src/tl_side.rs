@@ -77,9 +77,8 @@ impl<'p> TlPage<'p> {
     }
 
     pub fn text(&self, handle: usize) -> String {
-        self.tag(handle)
-            .inner_text(self.plain.parser())
-            .into_owned()
+        let node = &self.plain.nodes()[handle];
+        node.inner_text(self.plain.parser()).into_owned()
     }
 
     /// The texts below a tag as bytes, before tl makes a string of each.

@@ -19,6 +19,7 @@ pub enum Alteration {
     StartMoved,
     NameShortened,
     ParentForgotten,
+    OpenedMoved,
     LastTooLow,
     LastTooHigh,
     ValueForgotten,
@@ -50,7 +51,7 @@ pub const BY_TLS: [Alteration; 3] = [
     Alteration::QueryByTls,
 ];
 
-pub const ALTERATIONS: [Alteration; 26] = [
+pub const ALTERATIONS: [Alteration; 27] = [
     Alteration::ReadingRefused,
     Alteration::ReadOneByteLess,
     Alteration::LastTagDropped,
@@ -58,6 +59,7 @@ pub const ALTERATIONS: [Alteration; 26] = [
     Alteration::StartMoved,
     Alteration::NameShortened,
     Alteration::ParentForgotten,
+    Alteration::OpenedMoved,
     Alteration::LastTooLow,
     Alteration::LastTooHigh,
     Alteration::ValueForgotten,
@@ -161,12 +163,20 @@ impl Altered {
         Ok(count)
     }
 
-    /// Reads by tl's profile. It is an alteration where a tag, or its start, name or parent, is another one.
+    /// Reads by tl's profile. It is an alteration where a tag, or its start, name, parent or place, is another one.
     fn read_by_tls(&self, page: &[u8], table: &mut [u32]) -> Result<usize, Refusal> {
         let tags = |table: &[u32]| {
             let rows = Rows(table);
             let tags = (0..rows.count()).filter(|h| rows.is_tag(*h));
-            let of = |h| (h, rows.start(h), rows.name(page, h), rows.parent(h));
+            let of = |h| {
+                (
+                    h,
+                    rows.start(h),
+                    rows.name(page, h),
+                    rows.parent(h),
+                    rows.places(h),
+                )
+            };
             tags.map(of).collect::<Vec<_>>()
         };
         let before = tags(table);
@@ -216,6 +226,7 @@ impl Altered {
             Alteration::ParentForgotten => {
                 table[Rows::at(last_tag_with(&|h| rows.parent(h) > 0)?) + 6] = 0;
             }
+            Alteration::OpenedMoved => table[Rows::at(last_tag_with(&|_| true)?) + 5] -= 1,
             Alteration::LastTooLow => {
                 table[Rows::at(last_tag_with(&|h| rows.last(h) > h)?) + 7] -= 1;
             }

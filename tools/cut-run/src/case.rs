@@ -1,9 +1,9 @@
 //! The pages of a run, with what is asked of them.
 
+use common::Random;
 use tl_rattle::Profile;
 
 use crate::questions::{questions, Extent, Questions};
-use crate::random::Random;
 use crate::{pages, profiles};
 
 /// Every name and the text of every tag, and many selectors; of a long page fewer.
@@ -40,7 +40,7 @@ impl Part {
     /// The stream of a page, another one for each page of each part.
     fn random(self, seed: u64, number: usize) -> Random {
         let part = u64::from(self.long) + (u64::from(self.random_profile) << 40);
-        Random::new(seed, 2 * number as u64 + part)
+        Random::for_page(seed, 2 * number as u64 + part)
     }
 }
 

@@ -3,12 +3,12 @@
 
 use std::fmt;
 
+use common::Random;
 use tl_rattle::calls::HeldAt;
 use tl_rattle::{max_nodes, words_for, Profile, Refusal, HEADER_WORDS, ROW_WORDS};
 
 use crate::ended::EndedCounts;
 use crate::questions::Questions;
-use crate::random::Random;
 use crate::reader::{Asked, Reader};
 use crate::rows::Rows;
 
@@ -22,6 +22,8 @@ pub enum Clause {
     Start,
     Name,
     Parent,
+    /// words 3 to 5
+    Places,
     /// what a tag answers for an attribute name, with the value's places
     Attribute,
     /// the value's bytes
@@ -343,7 +345,7 @@ impl<'p, R: Reader> Whole<'p, R> {
     }
 
     /// Part 1: the beginning's tags are the whole page's whose opening `>` lies before the cut, each with the same start,
-    /// name and parent.
+    /// name, parent and words 3 to 5.
     fn tags(&mut self, counts: &mut Counts, asked: Asked<'_>) -> Vec<u32> {
         let n = asked.page.len();
         let rows = Rows(asked.table);
@@ -374,7 +376,7 @@ impl<'p, R: Reader> Whole<'p, R> {
         tags
     }
 
-    /// A tag's start, name and parent are the same in the whole page.
+    /// A tag's start, name, parent and words 3 to 5 are the same in the whole page.
     fn same(&mut self, counts: &mut Counts, asked: Asked<'_>, whole: Rows<'_>, h: u32) {
         let n = asked.page.len();
         let rows = Rows(asked.table);
@@ -395,6 +397,12 @@ impl<'p, R: Reader> Whole<'p, R> {
         if one != other {
             self.differ(counts, Clause::Parent, n, Some(h), || {
                 format!("word 6 is {one} and {other}")
+            });
+        }
+        let (one, other) = (rows.places(h), whole.places(h));
+        if one != other {
+            self.differ(counts, Clause::Places, n, Some(h), || {
+                format!("words 3 to 5 are {one:?} and {other:?}")
             });
         }
     }
@@ -670,7 +678,7 @@ mod tests {
         let mut counts = Counts::default();
         let mut whole = Whole::new(&tl, page, &ONLY_TEXTS, &Compiled, &mut counts);
         for n in 0..=page.len() {
-            whole.cut(n, &Compiled, &mut Random::new(0, 0), &mut counts);
+            whole.cut(n, &Compiled, &mut Random::for_page(0, 0), &mut counts);
         }
         assert_eq!(counts.differences, 0);
         counts
@@ -722,7 +730,7 @@ mod tests {
         let mut whole = Whole::new(&tl, page, &ONLY_TEXTS, &reader, &mut Counts::default());
         for n in 0..=page.len() {
             let mut counts = Counts::default();
-            whole.cut(n, &Compiled, &mut Random::new(0, 0), &mut counts);
+            whole.cut(n, &Compiled, &mut Random::for_page(0, 0), &mut counts);
             let reported = whole.differences.drain(..);
             let clauses: Vec<Clause> = reported.map(|difference| difference.clause).collect();
             let expected: &[Clause] = match n {
@@ -745,7 +753,7 @@ mod tests {
             let cuts: Vec<usize> = whole.differences.iter().map(|it| it.cut).collect();
             (counts.cuts, counts.over_limit, counts.tags, cuts)
         };
-        let random = || Random::new(0, 0);
+        let random = || Random::for_page(0, 0);
         let right =
             at_every_cut(&|whole, n, counts| whole.cut(n, &Compiled, &mut random(), counts));
         assert_eq!(right, (6, 6, 0, vec![]));

@@ -8,7 +8,6 @@ mod ended;
 mod pages;
 mod profiles;
 mod questions;
-mod random;
 mod reader;
 mod rows;
 mod run;

@@ -1,6 +1,6 @@
 //! Random pages, of several kinds.
 
-use crate::random::Random;
+use common::Random;
 
 /// What a page is made of.
 #[derive(Clone, Copy, Debug, PartialEq, Eq)]
@@ -224,7 +224,7 @@ mod tests {
     #[test]
     fn as_long_as_asked() {
         for number in 0..100 {
-            let mut random = Random::new(1, number);
+            let mut random = Random::for_page(1, number);
             for kind in KINDS {
                 let length = random.between(0, 300);
                 assert_eq!(page(&mut random, kind, length).len(), length);

@@ -2,10 +2,9 @@
 
 use std::fmt;
 
+use common::{is_identifier, Random};
 use tl_rattle::sys::tl_profile;
 use tl_rattle::{Ended, Profile, MAX_PAGE};
-
-use crate::random::Random;
 
 /// A profile's places for void names, and the bytes of one.
 const PLACES: usize = 24;
@@ -76,11 +75,10 @@ fn name(random: &mut Random, on_page: &[&[u8]]) -> Vec<u8> {
 
 /// What stands after each `<` and the `/` there may be: as much of the name as has a place.
 fn names_on(page: &[u8]) -> Vec<&[u8]> {
-    let is_identifier = |byte: &u8| byte.is_ascii_alphanumeric() || b"-_:+/".contains(byte);
     let parts = page.split(|byte| *byte == b'<').skip(1);
     let names = parts.map(|part| {
         let part = part.strip_prefix(b"/").unwrap_or(part);
-        let name = part.split(|byte| !is_identifier(byte)).next();
+        let name = part.split(|byte| !is_identifier(*byte)).next();
         let name = name.unwrap_or_default();
         &name[..name.len().min(PLACE)]
     });
@@ -228,7 +226,7 @@ mod tests {
     fn within_the_limits_and_as_long_as_before() {
         let mut counts = ProfileCounts::default();
         for number in 0..600 {
-            let mut random = Random::new(1, number);
+            let mut random = Random::for_page(1, number);
             let length = random.between(0, 300);
             let page = pages::page(&mut random, pages::Kind::Nested, length);
             let profile = profile(&mut random, &page);

@@ -3,9 +3,8 @@
 use std::collections::BTreeSet;
 use std::ops::Range;
 
+use common::{identifier_runs, is_identifier, Random};
 use tl_rattle::{words_for, Dom};
-
-use crate::random::Random;
 
 /// What is asked at every cut.
 #[derive(Clone)]
@@ -56,10 +55,6 @@ pub fn questions(random: &mut Random, dom: &Dom<'_>, extent: &Extent) -> Questio
 }
 
 // ---- what occurs
-
-fn is_identifier(byte: u8) -> bool {
-    byte.is_ascii_alphanumeric() || b"-_:+/".contains(&byte)
-}
 
 /// The bytes of a tag, which end after its opening `>`, and what is white in them.
 struct Opening<'p> {
@@ -250,12 +245,11 @@ fn simple(random: &mut Random, words: &Words, kind: usize) -> Vec<u8> {
 /// A part of a value that a selector of this kind would find, mostly.
 fn part_of(random: &mut Random, value: &[u8], kind: usize) -> Vec<u8> {
     // a selector with other than identifier bytes in its value cannot be read
-    let runs = runs(value);
+    let runs = identifier_runs(value);
     if runs.is_empty() || random.once_in(10) {
         return random.text(&[b"", b"v", b"a", value]).to_vec();
     }
-    let run = random.of(&runs).clone();
-    let run = &value[run];
+    let run = random.pick(&runs);
     let at = random.between(0, run.len());
     match kind {
         8 => run[..at].to_vec(),
@@ -263,21 +257,6 @@ fn part_of(random: &mut Random, value: &[u8], kind: usize) -> Vec<u8> {
         10 => run[at.min(run.len() / 2)..run.len() - at / 2].to_vec(),
         _ => run.to_vec(),
     }
-}
-
-/// The runs of identifier bytes in a value.
-fn runs(value: &[u8]) -> Vec<Range<usize>> {
-    let mut all = Vec::new();
-    let mut start = 0;
-    for at in 0..=value.len() {
-        if at == value.len() || !is_identifier(value[at]) {
-            if start < at {
-                all.push(start..at);
-            }
-            start = at + 1;
-        }
-    }
-    all
 }
 
 fn joined(random: &mut Random, joiner: usize) -> &'static [u8] {
@@ -375,7 +354,7 @@ mod tests {
         let dom = tl_rattle::parse(page).unwrap();
         assert_eq!(words(&dom).names, [&b"b"[..], b"d", b"id", b"k"]);
         for number in 0..300 {
-            let mut random = Random::new(1, number);
+            let mut random = Random::for_page(1, number);
             for kind in pages::KINDS {
                 let page = pages::page(&mut random, kind, 200);
                 names_are_held(&tl_rattle::parse(&page).unwrap());
@@ -390,7 +369,7 @@ mod tests {
     fn selectors_are_of_every_sort() {
         let (mut read, mut unread, mut long) = (0, 0, 0);
         for number in 0..50 {
-            let mut random = Random::new(1, number);
+            let mut random = Random::for_page(1, number);
             let page = pages::page(&mut random, pages::Kind::Nested, 300);
             let dom = tl_rattle::parse(&page).unwrap();
             let questions = questions(&mut random, &dom, &EXTENT);

@@ -50,6 +50,11 @@ impl Rows<'_> {
         self.word(handle, 5)
     }
 
+    /// Words 3 to 5: where a tag's name starts and ends, and the place after its opening `>`.
+    pub fn places(self, handle: u32) -> [u32; 3] {
+        [3, 4, 5].map(|word| self.word(handle, word))
+    }
+
     /// The parent's handle plus 1; 0 at the root.
     pub fn parent(self, handle: u32) -> u32 {
         self.word(handle, 6)

@@ -2,11 +2,12 @@
 
 use std::time::Instant;
 
+use common::Random;
+
 use crate::case::{case, Case, Part};
 use crate::compare::{Clause, Counts, Difference, Whole};
 use crate::profiles::ProfileCounts;
 use crate::questions::Questions;
-use crate::random::Random;
 use crate::reader::{Compiled, Reader};
 use crate::Options;
 
@@ -33,7 +34,7 @@ pub fn smallest<R: Reader>(case: &Case, reader: &R, clause: Clause) -> Vec<u8> {
         ..case.questions.clone()
     };
     let differs = |page: &[u8]| {
-        let mut random = Random::new(0, 0);
+        let mut random = Random::for_page(0, 0);
         let mut counts = Counts::default();
         let mut whole = Whole::new(&case.profile, page, &questions, &Compiled, &mut counts);
         (0..=page.len()).any(|n| {
@@ -125,7 +126,7 @@ fn print(counts: &Counts) {
         "cuts {}, of these with nothing to compare {}, as the page is over its profile's limit",
         counts.cuts, counts.over_limit
     );
-    println!("tags {}, each with start, name and parent", counts.tags);
+    println!("tags {}, each with start, name, parent and words 3 to 5", counts.tags);
     println!(
         "attribute answers {}: absent {}, without a value {}, with a value {}",
         counts.absent + counts.bare + counts.values,

@@ -1,12 +1,12 @@
 //! Alters answers on purpose: what must be reported, and what must not.
 
+use common::Random;
 use tl_rattle::Profile;
 
 use crate::altered::{Alteration, Altered, AnyLength, EndedExchanged, ALTERATIONS, BY_TLS};
 use crate::case::{case, Case, Part, SHORT};
 use crate::compare::{Clause, Counts, Difference, Whole};
 use crate::questions::questions;
-use crate::random::Random;
 use crate::reader::Compiled;
 use crate::run::{compare, smallest};
 
@@ -31,7 +31,14 @@ fn shows_in(alteration: Alteration) -> &'static [Clause] {
         Alteration::StartMoved => &[Clause::Start],
         Alteration::NameShortened => &[Clause::Name],
         Alteration::ParentForgotten => &[Clause::Parent],
-        Alteration::ReadByTls => &[Clause::Tags, Clause::Start, Clause::Name, Clause::Parent],
+        Alteration::OpenedMoved => &[Clause::Places],
+        Alteration::ReadByTls => &[
+            Clause::Tags,
+            Clause::Start,
+            Clause::Name,
+            Clause::Parent,
+            Clause::Places,
+        ],
         Alteration::LastTooLow | Alteration::LastTooHigh => &[Clause::Descendants],
         Alteration::ValueForgotten
         | Alteration::ValueShortened
@@ -198,7 +205,7 @@ fn ended_is_left_out(seed: u64, part: Part) -> bool {
 /// The smallest page on which it shows that the last tag is dropped.
 fn smallest_tag(seed: u64) -> bool {
     let page = b"x <p id=a><b k=v>1</b></p><!--c--> y".to_vec();
-    let mut random = Random::new(seed, 0);
+    let mut random = Random::for_page(seed, 0);
     let dom = tl_rattle::parse(&page).expect("it is not too long");
     let questions = questions(&mut random, &dom, &SHORT);
     drop(dom);

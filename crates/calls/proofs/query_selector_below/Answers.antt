@@ -5,7 +5,7 @@ use Rattle.rules.specs.Query.{below_tag}
 use Rattle.rules.specs.Sound.{last_at}
 use Rattle.rules.specs.Answers.{selected, query_below_answer, query_below_buffer}
 use Rattle.rules.specs.declared.Node.{Node}
-use Rattle.rules.proofs.Asking.{was_fine_tag, answered_tag, refused_tag}
+use Rattle.rules.proofs.Asking.{was_fine_tag, answered_tag, refused_tag, leaves_refused}
 use Rattle.calls.proofs.query_selector_below.Goals as goal
 
 pub returns-in-Err : goal.returns-in-Err
@@ -13,7 +13,7 @@ unfolding query_below_answer query_below_buffer
 returns-in-Err c =
     let a = c.args in
     let e = refused_tag (settings_of a.profile.now) a.page.now a.table.now a.h (sym c.in-Err.ensures.answer) _ in
-    record { is = c.refuse.ensures.is ∙ sym e; left = c.refuse.ensures.left ∙ rw e }
+    leaves_refused a.out.now _ e c.refuse.ensures
 
 pub returns-in-Ok : goal.returns-in-Ok
 unfolding query_below_answer query_below_buffer

@@ -7,8 +7,8 @@ use Rattle.listing.proofs.list.Goals as goal
 pub answer-requires : goal.answer-requires
 answer-requires c = λ n e. let a = c.args in
     let read = rw c.tl.ensures at c.parse-read.ensures in
-    rw read.table (parsed_sound (settings_of tl_profile) a.page.now a.table.now n (sym read.answer ∙ e))
+    rw read.left (parsed_sound (settings_of tl_profile) a.page.now a.table.now n (sym read.is ∙ e))
 
 pub returns : goal.returns
 returns c = let read = rw c.tl.ensures at c.parse-read.ensures in
-    record { table = read.table; text = rw (read.table, read.answer) at c.answer.ensures }
+    record { table = read.left; text = rw (read.left, read.is) at c.answer.ensures }

@@ -4,7 +4,7 @@ use Rattle.std.proofs.Common.{◌+◌, ◌-◌, ◌*◌, length}
 use Rattle.queryselector.proofs.+parse_combinator_selector.Given as goal
 
 abbrev pub decreases-selector : goal.decreases-selector
-decreases-selector l = 2 * (length l.s.now - l.at)
+decreases-selector l = 2 * (length l.stream.now.«data».now - l.stream.now.idx)
 
 abbrev pub decreases-parse_combinator : goal.decreases-parse_combinator
-decreases-parse_combinator l = 2 * (length l.s.now - l.at) + 1
+decreases-parse_combinator l = 2 * (length l.stream.now.«data».now - l.stream.now.idx) + 1

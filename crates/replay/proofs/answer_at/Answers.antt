@@ -4,7 +4,7 @@ use mathlib.Core.Path.{sym}
 use Prim.Native.Nat.{ℕ}
 use lib.ListN.{length-append, length-drop, length-take}
 use Rattle.records.proofs.Within.{record_within}
-use Rattle.replay.proofs.Lending.{lent_within}
+use Rattle.replay.proofs.Within.{lent_within}
 use Rattle.replay.proofs.answer_at.Goals as goal
 
 pub overflow_add-end : goal.overflow_add-end

@@ -4,7 +4,7 @@ use crate::model::{
     name_place, set_limit, ProfileBytes, NAMES, NAMES_AT, NAME_BYTES, PAGE_LIMIT, PROFILE_BYTES,
     WHITE_AT, WHITE_BYTES,
 };
-use crate::random::Random;
+use common::Random;
 
 /// How many profiles there are that differ from one in one byte at most.
 pub const CHANGES: u64 = PROFILE_BYTES as u64 * 256;
@@ -48,7 +48,7 @@ pub fn fine(random: &mut Random) -> ProfileBytes {
 /// The tab alone, none, one byte at several places or in the last, or any.
 fn white(random: &mut Random) -> [u8; WHITE_BYTES] {
     const COMMON: &[u8] = b"\t\n\r \x0b\x0c\x01\x1f ";
-    let one = random.byte_of(COMMON);
+    let one = *random.of(COMMON);
     match random.below(10) {
         0 => [b'\t', 0, 0, 0],
         1 => [0; WHITE_BYTES],
@@ -57,7 +57,7 @@ fn white(random: &mut Random) -> [u8; WHITE_BYTES] {
         _ => [(); WHITE_BYTES].map(|()| match random.below(4) {
             0 => 0,
             1 => 1 + random.below(32) as u8,
-            _ => random.byte_of(COMMON),
+            _ => *random.of(COMMON),
         }),
     }
 }
@@ -132,7 +132,7 @@ pub fn spoil(profile: &mut ProfileBytes, number: usize, random: &mut Random) {
         }
         _ => vec![(
             anywhere,
-            random.byte_of(b"\x01 !\"#*,.;<=>?@[\\]^`{|}~\x7f\x80\xc3\xff"),
+            *random.of(b"\x01 !\"#*,.;<=>?@[\\]^`{|}~\x7f\x80\xc3\xff"),
         )],
     };
     for (place, byte) in changes {

@@ -1,7 +1,7 @@
 //! Pages made to fit a profile: with its white bytes and others between names and in values, and with tags that have its void names
 //! or names next to them.
 use crate::model::{Profile, NAME_BYTES};
-use crate::random::Random;
+use common::Random;
 
 const IDENTIFIER: &[u8] = b"abxzABZ0189-_:+/";
 const NAMES: [&str; 14] = [
@@ -64,7 +64,7 @@ pub fn void_name(others: &[Vec<u8>], random: &mut Random) -> Vec<u8> {
     let mut name = match random.below(4) {
         0 => {
             let length = 1 + random.below(NAME_BYTES);
-            (0..length).map(|_| random.byte_of(IDENTIFIER)).collect()
+            (0..length).map(|_| *random.of(IDENTIFIER)).collect()
         }
         1 if !others.is_empty() => near(&others[random.below(others.len())], random),
         _ => random.pick(&NAMES).as_bytes().to_vec(),
@@ -75,9 +75,7 @@ pub fn void_name(others: &[Vec<u8>], random: &mut Random) -> Vec<u8> {
 
 /// A name as long as one may be.
 pub fn long_name(random: &mut Random) -> Vec<u8> {
-    (0..NAME_BYTES)
-        .map(|_| random.byte_of(IDENTIFIER))
-        .collect()
+    (0..NAME_BYTES).map(|_| *random.of(IDENTIFIER)).collect()
 }
 
 /// One of the void names, a name next to one, or another.
@@ -105,11 +103,11 @@ fn near(name: &[u8], random: &mut Random) -> Vec<u8> {
     let at = random.below(near.len());
     match random.below(6) {
         0 => near.truncate(at),
-        1 => near.push(random.byte_of(IDENTIFIER)),
-        2 => near.insert(0, random.byte_of(IDENTIFIER)),
+        1 => near.push(*random.of(IDENTIFIER)),
+        2 => near.insert(0, *random.of(IDENTIFIER)),
         3 => near = near.to_ascii_uppercase(),
         4 if near.get(at).is_some_and(u8::is_ascii_alphabetic) => near[at] ^= 0x20,
-        _ if !near.is_empty() => near[at] = random.byte_of(IDENTIFIER),
+        _ if !near.is_empty() => near[at] = *random.of(IDENTIFIER),
         _ => {}
     }
     near
@@ -118,8 +116,8 @@ fn near(name: &[u8], random: &mut Random) -> Vec<u8> {
 /// A white byte of the profile, or one that is white elsewhere, or 0, which is white nowhere.
 fn white(profile: &Profile, random: &mut Random) -> u8 {
     match profile.white.is_empty() || random.once_in(3) {
-        true => random.byte_of(b" \n\t\r\x0b\x0c\0\x01\x1f\x20"),
-        false => random.byte_of(&profile.white),
+        true => *random.of(b" \n\t\r\x0b\x0c\0\x01\x1f\x20"),
+        false => *random.of(&profile.white),
     }
 }
 
@@ -164,7 +162,7 @@ fn attribute(page: &mut Vec<u8>, profile: &Profile, random: &mut Random) {
     let quote: &str = random.pick(&["", "", "", "'", "\""]);
     page.extend(quote.as_bytes());
     for _ in 0..1 + random.below(3) {
-        page.push(random.byte_of(b"abcd"));
+        page.push(*random.of(b"abcd"));
         whites(page, 1, profile, random);
     }
     page.extend(quote.as_bytes());

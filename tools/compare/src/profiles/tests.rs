@@ -15,7 +15,7 @@ fn profiles() -> Vec<Profile> {
 
 fn inputs(kind: Kind) -> impl Iterator<Item = Under> {
     (0..TRIED).map(move |number| {
-        let mut random = Random::of(1, kind as u64, number);
+        let mut random = Random::for_input(1, kind as u64, number);
         input(kind, number, &mut random)
     })
 }

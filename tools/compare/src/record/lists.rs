@@ -2,8 +2,8 @@
 use super::{filled, numbers_of, three_of, Recording};
 use crate::lists::List;
 use crate::model::Asked;
-use crate::random::Random;
 use crate::tl_side::TlPage;
+use common::Random;
 
 /// The most handles of a recorded list.
 const LISTED: usize = 100;

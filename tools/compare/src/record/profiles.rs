@@ -10,7 +10,7 @@ use crate::model::{
     PAGE_LIMIT, PAPER, PROFILE_BYTES, TL_BYTES, WHITE_AT,
 };
 use crate::profiles::refusals;
-use crate::random::Random;
+use common::Random;
 
 /// What is written into a profile: a place and some bytes.
 type Change<'c> = (usize, &'c [u8]);

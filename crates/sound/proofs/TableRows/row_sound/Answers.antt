@@ -5,7 +5,7 @@ use mathlib.Core.Bool.{Bool, true, false}
 use Prim.Native.Nat.{◌+◌}
 use Rattle.rules.specs.Scan.{pick}
 use Rattle.rules.specs.Sound.{tagged, parent_at}
-use Rattle.sound.specs.Row.{next_of}
+use Rattle.sound.specs.Row.{next_climb}
 use Rattle.sound.proofs.Rows.{own_of, next_is, own_parent, own_last}
 use Rattle.sound.proofs.TableRows.row_sound.Goals as goal
 use Rattle.sound.proofs.TableRows.row_sound.Goals.{After-under}
@@ -28,7 +28,7 @@ under-requires c = let a = c.args in
 module _ (c : After-under) where
   decided : {b : Bool} (t : Bool) → c.under.result ≡ b → tagged c.row-n.result ≡ t
       → (let a = c.args in
-      pick b (Some (pick t (a.h + 1) (parent_at a.self.now.table.now a.h))) None ≡ next_of a.self.now.len a.self.now.table.now a.self.now.count a.h)
+      pick b (Some (pick t (a.h + 1) (parent_at a.self.now.table.now a.h))) None ≡ next_climb a.self.now.len a.self.now.table.now a.self.now.count a.h)
   decided t u k =
       let a = c.args in
       let right = c.if-not-own_sound.false in

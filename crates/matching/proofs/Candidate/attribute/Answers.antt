@@ -1,6 +1,0 @@
--- `matching::Candidate::attribute` meets its contract: a value's bytes are the page's own.
-use Rattle.matching.proofs.Values.{held}
-use Rattle.matching.proofs.Candidate.attribute.Goals as goal
-
-pub returns : goal.returns
-returns c = held _ _ _ _ c.attribute.ensures

@@ -1,6 +1,0 @@
--- `replay::Document::query` meets its contract: what the call answers, in numbers, and the buffer that it leaves.
-use Rattle.replay.proofs.Writing.{prints}
-use Rattle.replay.proofs.Document.query.Goals as goal
-
-pub returns : goal.returns
-returns c = prints c.tl_query_selector-number.ensures c.put_line.ensures

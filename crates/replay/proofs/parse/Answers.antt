@@ -1,6 +1,0 @@
--- `replay::parse` meets its contract: what the call answers, in numbers, and the buffer that it leaves.
-use Rattle.replay.proofs.Writing.{prints}
-use Rattle.replay.proofs.parse.Goals as goal
-
-pub returns : goal.returns
-returns c = prints c.tl_parse-number.ensures c.put_line.ensures

@@ -1,0 +1,152 @@
+// The questions about a page and its table. Those about a list of handles are in `lists`.
+
+ghost use Rattle.std.specs.Prelude.{length};
+ghost use Rattle.rules.specs.Ascii.{bytes};
+ghost use Rattle.rules.specs.Profile.{settings_of};
+ghost use Rattle.rules.specs.Refusals.{manner_of, ranged_numbers, found_numbers, asked_numbers};
+ghost use Rattle.rules.specs.Answers.{range_answer, text_answer, text_buffer, attribute_answer, id_answer, class_answer, class_buffer};
+ghost use Rattle.rules.specs.Answers.{query_answer, query_buffer, query_below_answer, query_below_buffer};
+ghost use Rattle.lines.specs.Writer.{Puts};
+ghost use Rattle.records.specs.Printed.{line};
+ghost use Rattle.replay.specs.Printed.{Prints};
+
+use lines::Writer;
+use profile::SIZE;
+
+// A profile, a page and its table, which the questions are about. Each method asks one, and writes the line of the answer. They are alike
+// but for the call: in a closure its promise would be said once more.
+#[derive(Clone, Copy)]
+pub struct Document<'a> {
+    pub profile: &'a [u8; SIZE],
+    pub page: &'a [u8],
+    pub table: &'a [u32],
+}
+
+#[tactic(auto, unfolding(records::specs::Printed::line))]
+impl Document<'_> {
+    pub fn range(&self, h: u32, out: &mut Writer)
+        ensures { let f = settings_of self.now.profile.now in
+            let numbers = ranged_numbers (range_answer f self.now.page.now self.now.table.now h) in
+            Puts out.old (line (bytes "range") numbers) out.new }
+    {
+        let mut answer = [0; 3];
+        let number = tl::tl_range(self.profile, self.page, self.table, h as usize, &mut answer);
+        records::put_line(out, b"range", &[number], &answer);
+    }
+
+    pub fn attribute(&self, h: u32, name: &[u8], out: &mut Writer)
+        ensures { let f = settings_of self.now.profile.now in
+            let numbers = asked_numbers (attribute_answer f self.now.page.now self.now.table.now h name.now) in
+            Puts out.old (line (bytes "attribute") numbers) out.new }
+    {
+        let mut answer = [0; 3];
+        let number = tl::tl_attribute(
+            self.profile,
+            self.page,
+            self.table,
+            h as usize,
+            name,
+            &mut answer,
+        );
+        records::put_line(out, b"attribute", &[number], &answer);
+    }
+
+    pub fn text(&self, h: u32, text: &mut [u8], out: &mut Writer)
+        ensures { let f = settings_of self.now.profile.now in
+            let p = self.now.page.now in
+            let t = self.now.table.now in
+            let b = text.old in
+            Prints out.old (bytes "text") (text_answer f p t h (length b)) (text_buffer f p t h b) out.new text.new }
+    {
+        let mut count = 0;
+        let number = tl::tl_inner_text(
+            self.profile,
+            self.page,
+            self.table,
+            h as usize,
+            text,
+            &mut count,
+        );
+        records::put_line(out, b"text", &[number as usize, count], text);
+    }
+
+    pub fn id(&self, manner: u32, id: &[u8], out: &mut Writer)
+        ensures { let f = settings_of self.now.profile.now in
+            let numbers = found_numbers (id_answer f self.now.page.now self.now.table.now (manner_of manner) id.now) in
+            Puts out.old (line (bytes "id") numbers) out.new }
+    {
+        let mut answer = [0; 2];
+        let number = tl::tl_get_element_by_id(
+            self.profile,
+            self.page,
+            self.table,
+            manner,
+            id,
+            &mut answer,
+        );
+        records::put_line(out, b"id", &[number], &answer);
+    }
+
+    pub fn class(&self, manner: u32, class: &[u8], words: &mut [u32], out: &mut Writer)
+        ensures { let f = settings_of self.now.profile.now in
+            let p = self.now.page.now in
+            let t = self.now.table.now in
+            let m = manner_of manner in
+            let k = class.now in
+            let b = words.old in
+            Prints out.old (bytes "class") (class_answer f p t m k (length b)) (class_buffer f p t m k b) out.new words.new }
+    {
+        let mut count = 0;
+        let number = tl::tl_get_elements_by_class_name(
+            self.profile,
+            self.page,
+            self.table,
+            manner,
+            class,
+            words,
+            &mut count,
+        );
+        records::put_line(out, b"class", &[number as usize, count], words);
+    }
+
+    pub fn query(&self, s: &[u8], words: &mut [u32], out: &mut Writer)
+        ensures { let f = settings_of self.now.profile.now in
+            let p = self.now.page.now in
+            let t = self.now.table.now in
+            let k = s.now in
+            let b = words.old in
+            Prints out.old (bytes "query") (query_answer f p t k (length b)) (query_buffer f p t k b) out.new words.new }
+    {
+        let mut count = 0;
+        let number = tl::tl_query_selector(
+            self.profile,
+            self.page,
+            self.table,
+            s,
+            words,
+            &mut count,
+        );
+        records::put_line(out, b"query", &[number as usize, count], words);
+    }
+
+    pub fn below(&self, h: u32, s: &[u8], words: &mut [u32], out: &mut Writer)
+        ensures { let f = settings_of self.now.profile.now in
+            let p = self.now.page.now in
+            let t = self.now.table.now in
+            let k = s.now in
+            let b = words.old in
+            Prints out.old (bytes "below") (query_below_answer f p t h k (length b)) (query_below_buffer f p t h k b) out.new words.new }
+    {
+        let mut count = 0;
+        let number = tl::tl_query_selector_below(
+            self.profile,
+            self.page,
+            self.table,
+            h as usize,
+            s,
+            words,
+            &mut count,
+        );
+        records::put_line(out, b"below", &[number as usize, count], words);
+    }
+}

@@ -1,0 +1,6 @@
+-- `tl::tl_query_selector` meets its contract: what the call answers, in numbers.
+use Rattle.tl.proofs.Left.{exported}
+use Rattle.tl.proofs.exports.tl_query_selector.Goals as goal
+
+pub returns : goal.returns
+returns c = exported c.query_selector.ensures.is c.query_selector.ensures.left c.leave.ensures.ok c.leave.ensures.err

@@ -1,6 +1,0 @@
--- `tl::tl_parse` meets its contract: what the call answers, in numbers.
-use Rattle.tl.proofs.Left.{exported}
-use Rattle.tl.proofs.tl_parse.Goals as goal
-
-pub returns : goal.returns
-returns c = exported c.parse.ensures.answer c.parse.ensures.table c.leave.ensures.ok c.leave.ensures.err
