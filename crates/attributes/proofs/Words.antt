@@ -61,7 +61,8 @@ module _ (s : List ℕ) where
         (words_at_lem e es j (omega arith))
 
     -- and all the words by each name's
-    pub words_by : (at : ℕ) (es w : List ℕ) → length w ≡ 3 * length es → ((j : ℕ) → j < length es → name_words j w ≡ f (name at es j)) → w ≡ each_name f s at es
+    pub words_by : (at : ℕ) (es w : List ℕ) → length w ≡ 3 * length es → ((j : ℕ) → j < length es → name_words j w ≡ f (name at es j))
+        → w ≡ each_name f s at es
     unfolding each_name
     words_by at [] w n q = sym (take_all 0 w (omega arith))
     words_by at (e ∷ es) w n q =

@@ -33,5 +33,6 @@ module _ (q p ws k : List ℕ) (h : ℕ) where
   three_length = held_length (lookup (white_of q) p (node_at ws h) k)
 
   -- v was looked up there
-  pub three_held : {white : ℕ → Bool} → white ≡ white_of q → {n : Node} → n ≡ node_at ws h → {v : Held} → Looked white p n k v → three ≡ held_numbers v
+  pub three_held : {white : ℕ → Bool} → white ≡ white_of q → {n : Node} → n ≡ node_at ws h → {v : Held} → Looked white p n k v
+      → three ≡ held_numbers v
   three_held w e l = rw (l.is, w, e)

@@ -40,7 +40,8 @@ module _ (q p ws s es : List ℕ) where
   words_all hs = length_each words (3 * length es) words_length hs ∙ omega arith
 
   -- they are what is looked up for each
-  pub words_held : (h : ℕ) {white : ℕ → Bool} → white ≡ white_of q → {n : Node} → n ≡ node_at ws h → held_words (lookup white p n) s es ≡ words h
+  pub words_held : (h : ℕ) {white : ℕ → Bool} → white ≡ white_of q → {n : Node} → n ≡ node_at ws h
+      → held_words (lookup white p n) s es ≡ words h
   words_held h w e = rw (w, e)
 
   -- where k is within each name and in no handle's opening, nothing is held

@@ -129,7 +129,8 @@ module _ (white : ℕ → Bool) (void : List ℕ → Bool) (p : List ℕ) (n : �
   -- cut, or one item more takes it there, which is no tag, where the whole page's item goes beyond.
   pub data Ending (r s : Reading) : Type 0 where
     there : r.at ≡ n → s ≡ r → Ending r s
-    short : r.at < n → n < next (item_at white p r.at) → next (item_at white (take n p) r.at) ≡ n → is_tag_item (item_at white (take n p) r.at) ≡ false
+    short : r.at < n → n < next (item_at white p r.at) → next (item_at white (take n p) r.at) ≡ n
+        → is_tag_item (item_at white (take n p) r.at) ≡ false
         → s ≡ put void (take n p) r (item_at white (take n p) r.at) → Ending r s
 
   -- From r on the beginning's reading comes to s and the whole page's to t. They make the same steps up to a common reading.

@@ -35,7 +35,8 @@ held_begin t l =
 pub reads_begin : (p t : List ℕ) → head_words ≤ length t → HoldsPage p t start
 reads_begin p t l = record { t = t; hd = take head_words t; R = begin; held = held_begin t l; good = good_begin p }
 
-pub held_end : {t₁ t hd : List ℕ} {R : Reading} {s : State} → Represents t₁ t hd R s → (last len : ℕ) {t₂ t₃ : List ℕ} → last ≡ pred s.count
+pub held_end : {t₁ t hd : List ℕ} {R : Reading} {s : State} → Represents t₁ t hd R s
+    → (last len : ℕ) {t₂ t₃ : List ℕ} → last ≡ pred s.count
     → Settled t₁ s.inner last t₂ → t₃ ≡ head_of s.count s.version len ++ drop head_words t₂
     → t₃ ≡ filled t (head_of s.count s.version len) (finished R).nodes
 held_end {t = t} {hd = hd} {R = R} {s = s} H last len e S w =

@@ -52,7 +52,8 @@ module _ (u v : Stream) (x : Simple) (o : Option Joiner) (read : Reads (joiner_a
   by_joiner : chain ≡ joined (chain_at bytes) x (with_place o v.idx)
   by_joiner = combinator_joined (chain_at bytes) bytes x u.idx ∙ rw (← read.read)
 
-  pub combinator_ended : (out out₁ : List ℕ) → o ≡ None → out₁ ≡ simple_words x Ended ++ drop piece_words out → Chained chain out out₁ (Some 1)
+  pub combinator_ended : (out out₁ : List ℕ) → o ≡ None → out₁ ≡ simple_words x Ended ++ drop piece_words out
+      → Chained chain out out₁ (Some 1)
   unfolding written
   combinator_ended out out₁ a e = rw (by_joiner, a) (record { answer = refl; words = e ∙ more_written (piece x Ended) [] out })
 

@@ -39,7 +39,8 @@ abbrev pub joined : (ℕ → Option (List Piece)) → Simple → Option (Joiner 
 joined rest x (Some (j, n)) = before (piece x j) (rest n)
 joined rest x None = Some (piece x End ∷ [])
 
-pub combinator_joined : (rest : ℕ → Option (List Piece)) (s : List ℕ) (x : Simple) (k : ℕ) → combinator_at rest s x k ≡ joined rest x (joiner_at s k)
+pub combinator_joined : (rest : ℕ → Option (List Piece)) (s : List ℕ) (x : Simple) (k : ℕ)
+    → combinator_at rest s x k ≡ joined rest x (joiner_at s k)
 combinator_joined rest s x k = go (ltb (spaces_end s k) (length s)) (join_at s k (spaces_end s k))
   where
     go : (t : Bool) (j : Joiner × ℕ) → pick t (before (piece x j.0) (rest j.1)) (Some (piece x End ∷ []))

@@ -250,7 +250,8 @@ module _ (len : ℕ) (ws : List ℕ) (count h : ℕ) where
       let step = climb_step (last_at ws) (h + 1) h f (omega arith) (omega arith) (sym e) in
       record { low = omega (arith, reaching_le (last_at ws) h h); same = step ∙ ap (reaching (last_at ws) (h + 1)) (sym (add-one h)) }
 
-  pub next_from_lem : (r : Option ℕ) (f : ℕ) → r ≡ next_climb len ws count h → r ≡ Some f → (row_sound len ws count h ≡ true) × ClimbStart ws (h + 1) f
+  pub next_from_lem : (r : Option ℕ) (f : ℕ) → r ≡ next_climb len ws count h → r ≡ Some f
+      → (row_sound len ws count h ≡ true) × ClimbStart ws (h + 1) f
   next_from_lem r f e g = go (row_sound len ws count h) refl (sym e ∙ g)
     where
       go : (b : Bool) → row_sound len ws count h ≡ b → pick b (Some (pick (tagged (node_at ws h)) (h + 1) (parent_at ws h))) None ≡ Some f

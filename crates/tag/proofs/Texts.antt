@@ -48,7 +48,8 @@ module _ (p ws : List ℕ) (h : ℕ) where
     from_none l = text_none p ws h k (omega (arith, own_last))
 
     -- row k is n, and s its text
-    pub from_next : k ≤ t.last → {n : Node} → n ≡ node_at ws k → {s : List ℕ} → s ≡ node_text p n → text_from p ws h k ≡ s ++ text_from p ws h (k + 1)
+    pub from_next : k ≤ t.last → {n : Node} → n ≡ node_at ws k → {s : List ℕ} → s ≡ node_text p n
+        → text_from p ws h k ≡ s ++ text_from p ws h (k + 1)
     from_next l e y = rw (y, e, add-one) (text_next p ws h k (omega (arith, own_last)))
 
 module _ (p ws : List ℕ) (e : sound (length p) ws ≡ true) where

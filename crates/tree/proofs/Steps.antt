@@ -85,7 +85,8 @@ module _ {t₁ t hd : List ℕ} {R : Reading} {s : State} (H : Represents t₁ t
       held_next x R.opens (rw (← H.rows.innermost, ← H.count) W) (still x) H.rows.innermost
 
   -- shut says that the tag is never opened
-  pub held_tag : (void : List ℕ → Bool) (p : List ℕ) {a e n : ℕ} (slash : Bool) {shut : Bool} {t₂ : List ℕ} → (slash || void (part p a e)) ≡ shut
+  pub held_tag : (void : List ℕ → Bool) (p : List ℕ) {a e n : ℕ} (slash : Bool) {shut : Bool} {t₂ : List ℕ}
+      → (slash || void (part p a e)) ≡ shut
       → Written t₁ s.count (tag_row s a e n shut) t₂
       → Represents t₂ t hd (put void p R (Tag a e n slash)) (added_to s n (pick shut s.inner (s.count + 1)))
   unfolding put
@@ -114,7 +115,8 @@ module _ {t₁ t hd : List ℕ} {R : Reading} {s : State} (H : Represents t₁ t
   pub held_moved : (at : ℕ) → Represents t₁ t hd (moved R at) (moved_to s at)
   held_moved at = record { rows = H.rows; at = refl; count = H.count; version = H.version }
 
-  pub held_version : (void : List ℕ → Bool) (p : List ℕ) (html : Bool) (at : ℕ) → Represents t₁ t hd (put void p R (Doctype html at)) (version_to s html at)
+  pub held_version : (void : List ℕ → Bool) (p : List ℕ) (html : Bool) (at : ℕ)
+      → Represents t₁ t hd (put void p R (Doctype html at)) (version_to s html at)
   unfolding put
   held_version void p html at = record { rows = H.rows; at = refl; count = H.count; version = ap (pick html 5) H.version }
 

@@ -21,7 +21,8 @@ pub loop-h-preserved : goal.loop-h-preserved
 loop-h-preserved g c =
     let l = c.loop-h.invariant in
     let w = c.in-Some.ensures.within in
-    let left : c.loop-h.rest.start + (c.loop-h.rest.end - c.loop-h.rest.start) - (c.in-Some.h + 1) ≡ c.loop-h.rest.end - (c.in-Some.h + 1) = omega (arith, w) in
+    let rest = c.loop-h.rest in
+    let left : rest.start + (rest.end - rest.start) - (c.in-Some.h + 1) ≡ rest.end - (c.in-Some.h + 1) = omega (arith, w) in
     record {
       high = omega (arith, w);
       end = l.end;
