@@ -55,6 +55,12 @@ static const struct tl_profile TL_PROFILE_DEFAULT = {
 #define TL_SCAN 0u
 #define TL_CLOSED 1u
 
+/* The views of a lookup in the scan, and of a query: all nodes; or the finished tags alone, which a closing tag with its '>' closed
+ * or which were never open (word 8 of the row is 1 or 3). Any number but 0 is finished; in the closed manner it is ignored.
+ * A tag that is finished in a page that broke off is the same finished tag in the whole page. */
+#define TL_VIEW_ALL 0u
+#define TL_VIEW_FINISHED 1u
+
 /* A table: 8 words (node count, version, page length, 8, 9, three zeros), then 9 words a node: kind (1 tag, 2 text,
  * 3 comment), start, end, name start, name end, place after the opening '>', parent's handle plus 1, last descendant, how a
  * tag ended (0 for a text or comment). */
@@ -95,16 +101,18 @@ uint32_t tl_attribute(const struct tl_profile *profile, const uint8_t *page, siz
 uint32_t tl_inner_text(const struct tl_profile *profile, const uint8_t *page, size_t page_len, const uint32_t *table,
                        size_t table_len, size_t handle, uint8_t *out, size_t out_len, size_t *count);
 
-/* The tag with an id: in the scan the lowest handle, else the one closed last. answer: how many (0 or 1), the handle.
- * Refused as 14, 1, 3. */
+/* The tag with an id: in the scan the lowest handle that the view shows, else the one closed last. answer: how many (0 or 1),
+ * the handle. Refused as 14, 1, 3. */
 uint32_t tl_get_element_by_id(const struct tl_profile *profile, const uint8_t *page, size_t page_len, const uint32_t *table,
-                              size_t table_len, uint32_t manner, const uint8_t *id, size_t id_len, size_t answer[2]);
+                              size_t table_len, uint32_t manner, uint32_t view, const uint8_t *id, size_t id_len,
+                              size_t answer[2]);
 
-/* The tags with a class: in the scan each once, in handle order, else in closing order, once for each time.
- * *count: the handles written. Refused as 14, 1, 3, 7. */
+/* The tags with a class: in the scan those that the view shows, each once, in handle order; else in closing order, once for each
+ * time. *count: the handles written. Refused as 14, 1, 3, 7. */
 uint32_t tl_get_elements_by_class_name(const struct tl_profile *profile, const uint8_t *page, size_t page_len,
-                                       const uint32_t *table, size_t table_len, uint32_t manner, const uint8_t *name,
-                                       size_t name_len, uint32_t *out, size_t out_len, size_t *count);
+                                       const uint32_t *table, size_t table_len, uint32_t manner, uint32_t view,
+                                       const uint8_t *name, size_t name_len, uint32_t *out, size_t out_len,
+                                       size_t *count);
 
 /* Reads a selector into 6 words a piece: kind (1 tag, 2 #, 3 ., 4 *, 5 [k], 6 [k=v], 7 ~=, 8 ^=, 9 $=, 10 *=), start and end
  * of the first name, of the second, joiner (0 end, 1 and, 2 or, 3 descendant, 4 parent). *count: its pieces.
@@ -112,15 +120,17 @@ uint32_t tl_get_elements_by_class_name(const struct tl_profile *profile, const u
 uint32_t tl_parse_query_selector(const uint8_t *selector, size_t selector_len, uint32_t *out, size_t out_len,
                                  size_t *count);
 
-/* The nodes that a selector finds, in handle order. *count: the handles written. Refused as 14, 1, 3, 5, 6, 7. */
+/* The nodes that the view shows and a selector finds, in handle order. *count: the handles written.
+ * Refused as 14, 1, 3, 5, 6, 7. */
 uint32_t tl_query_selector(const struct tl_profile *profile, const uint8_t *page, size_t page_len, const uint32_t *table,
-                           size_t table_len, const uint8_t *selector, size_t selector_len, uint32_t *out, size_t out_len,
-                           size_t *count);
+                           size_t table_len, uint32_t view, const uint8_t *selector, size_t selector_len, uint32_t *out,
+                           size_t out_len, size_t *count);
 
-/* The nodes below a tag that a selector finds. Refused as 14, 1, 3, 4, 5, 6, 7. */
+/* The same of the nodes below a tag, which need not be finished. Refused as 14, 1, 3, 4, 5, 6, 7. */
 uint32_t tl_query_selector_below(const struct tl_profile *profile, const uint8_t *page, size_t page_len,
-                                 const uint32_t *table, size_t table_len, size_t handle, const uint8_t *selector,
-                                 size_t selector_len, uint32_t *out, size_t out_len, size_t *count);
+                                 const uint32_t *table, size_t table_len, size_t handle, uint32_t view,
+                                 const uint8_t *selector, size_t selector_len, uint32_t *out, size_t out_len,
+                                 size_t *count);
 
 /* What each tag of a list of handles holds for an attribute name, as tl_attribute answers: 3 words a handle.
  * *count: the handles. Refused as 14, 1, 3, 4 (a handle of the list is no tag's), 7. */

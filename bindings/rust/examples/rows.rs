@@ -1,5 +1,6 @@
-//! Prints the rows of a page on standard input that a selector finds: each one's handle and text. The page is read under the
-//! profile in the file that a second argument names, such as the example `profile` writes; without one, as tl reads it.
+//! Prints the rows of a page on standard input that a selector finds: each one's handle, whether it is finished, and its
+//! text. The page is read under the profile in the file that a second argument names, such as the example `profile` writes;
+//! without one, as tl reads it.
 use std::env;
 use std::error::Error;
 use std::fs;
@@ -20,7 +21,14 @@ fn main() -> Result<(), Box<dyn Error>> {
     let rows = dom.query_selector(&selector)?;
     let texts = dom.inner_texts(&rows)?;
     for (row, text) in rows.iter().zip(texts.iter()) {
-        println!("{} {}", row.get_inner(), String::from_utf8_lossy(text));
+        // an unfinished row may still change when the rest of the page comes
+        let finished = if dom.finished().contains(*row) {
+            "finished"
+        } else {
+            "unfinished"
+        };
+        let text = String::from_utf8_lossy(text);
+        println!("{} {finished} {text}", row.get_inner());
     }
     Ok(())
 }

@@ -9,7 +9,7 @@
 
 use crate::refusal::outcome;
 use crate::sys;
-use crate::{Manner, Profile, Refusal};
+use crate::{Manner, Profile, Refusal, View};
 
 /// Where in the page an attribute's value lies, if there is one.
 #[derive(Debug, Clone, Copy, PartialEq, Eq, Hash)]
@@ -197,7 +197,7 @@ pub fn inner_text(
     Ok(count)
 }
 
-/// The tag with an id.
+/// The tag with an id: in the scan among those that the view shows. In the closed manner the view is ignored.
 ///
 /// # Errors
 /// [`Refusal::ProfileNotFine`], [`Refusal::PageTooLong`], [`Refusal::TableNotSound`].
@@ -206,6 +206,7 @@ pub fn get_element_by_id(
     page: &[u8],
     table: &[u32],
     manner: Manner,
+    view: View,
     id: &[u8],
 ) -> Result<Option<usize>, Refusal> {
     let mut answer = [0usize; 2];
@@ -219,6 +220,7 @@ pub fn get_element_by_id(
             table.as_ptr(),
             table.len(),
             manner.number(),
+            view.number(),
             id.as_ptr(),
             id.len(),
             answer.as_mut_ptr(),
@@ -229,7 +231,7 @@ pub fn get_element_by_id(
     Ok((many > 0).then_some(handle))
 }
 
-/// Writes the handles of the tags with a class: how many.
+/// Writes the handles of the tags with a class: how many. The view counts in the scan alone.
 ///
 /// # Errors
 /// [`Refusal::ProfileNotFine`], [`Refusal::PageTooLong`], [`Refusal::TableNotSound`], [`Refusal::BufferTooShort`].
@@ -238,6 +240,7 @@ pub fn get_elements_by_class_name(
     page: &[u8],
     table: &[u32],
     manner: Manner,
+    view: View,
     class: &[u8],
     out: &mut [u32],
 ) -> Result<usize, Refusal> {
@@ -252,6 +255,7 @@ pub fn get_elements_by_class_name(
             table.as_ptr(),
             table.len(),
             manner.number(),
+            view.number(),
             class.as_ptr(),
             class.len(),
             out.as_mut_ptr(),
@@ -284,7 +288,7 @@ pub fn parse_query_selector(selector: &[u8], out: &mut [u32]) -> Result<usize, R
     Ok(count)
 }
 
-/// Writes the handles of the nodes that a selector finds, in order: how many.
+/// Writes the handles of the nodes that the view shows and a selector finds, in order: how many.
 ///
 /// # Errors
 /// [`Refusal::ProfileNotFine`], [`Refusal::PageTooLong`], [`Refusal::TableNotSound`], [`Refusal::SelectorTooLong`],
@@ -293,6 +297,7 @@ pub fn query_selector(
     profile: &Profile,
     page: &[u8],
     table: &[u32],
+    view: View,
     selector: &[u8],
     out: &mut [u32],
 ) -> Result<usize, Refusal> {
@@ -306,6 +311,7 @@ pub fn query_selector(
             page.len(),
             table.as_ptr(),
             table.len(),
+            view.number(),
             selector.as_ptr(),
             selector.len(),
             out.as_mut_ptr(),
@@ -317,7 +323,7 @@ pub fn query_selector(
     Ok(count)
 }
 
-/// Writes the handles of the nodes below a tag that a selector finds, in order: how many.
+/// The same of the nodes below a tag, which the view need not show.
 ///
 /// # Errors
 /// [`Refusal::ProfileNotFine`], [`Refusal::PageTooLong`], [`Refusal::TableNotSound`], [`Refusal::NotATag`],
@@ -327,6 +333,7 @@ pub fn query_selector_below(
     page: &[u8],
     table: &[u32],
     handle: usize,
+    view: View,
     selector: &[u8],
     out: &mut [u32],
 ) -> Result<usize, Refusal> {
@@ -341,6 +348,7 @@ pub fn query_selector_below(
             table.as_ptr(),
             table.len(),
             handle,
+            view.number(),
             selector.as_ptr(),
             selector.len(),
             out.as_mut_ptr(),

@@ -2,7 +2,7 @@ use std::borrow::Cow;
 
 use crate::calls::{self, HeldAt};
 use crate::{max_nodes, sys, words_for};
-use crate::{Children, Handle, Kind, Node, Nodes, Profile, Refusal, MAX_PAGE};
+use crate::{Children, Finished, Handle, Kind, Node, Nodes, Profile, Refusal, MAX_PAGE};
 
 /// The version that a page's document type names.
 #[derive(Debug, Clone, Copy, PartialEq, Eq, Hash)]
@@ -26,6 +26,26 @@ impl Manner {
         match self {
             Manner::Scan => sys::TL_SCAN,
             Manner::Closed => sys::TL_CLOSED,
+        }
+    }
+}
+
+/// Which nodes a lookup in the scan, or a query, goes over. [`calls`] take it; a [`Dom`] looks at all nodes, and its
+/// [`Dom::finished`] at the finished tags.
+#[derive(Debug, Clone, Copy, PartialEq, Eq, Hash)]
+pub enum View {
+    /// All nodes.
+    All,
+    /// The finished tags alone ([`Node::is_finished`]): those that a closing tag with its `>` closed, and those that were
+    /// never open.
+    Finished,
+}
+
+impl View {
+    pub(crate) const fn number(self) -> u32 {
+        match self {
+            View::All => sys::TL_VIEW_ALL,
+            View::Finished => sys::TL_VIEW_FINISHED,
         }
     }
 }
@@ -56,7 +76,8 @@ impl<'a> Held<'a> {
     }
 }
 
-/// A page with its table, and the profile that it was read with: every lookup asks under it.
+/// A page with its table, and the profile that it was read with: every lookup asks under it, and goes over all nodes. Those
+/// that go over the finished tags alone are at [`Dom::finished`].
 pub struct Dom<'a> {
     profile: &'a Profile,
     page: &'a [u8],
@@ -271,6 +292,20 @@ impl<'a> Dom<'a> {
         (handle.index() < self.len()).then(|| Node::new(self, handle))
     }
 
+    /// The finished tags, and the lookups that find them alone. What a query finds there in a page that broke off it finds
+    /// in the whole page too: see [`Finished`].
+    ///
+    /// ```
+    /// let dom = tl_rattle::parse("<tr class=fill><td>120</td></tr><tr class=fill><td>80")?;
+    /// assert_eq!(dom.query_selector("tr.fill")?.len(), 2);
+    /// assert_eq!(dom.finished().query_selector("tr.fill")?.len(), 1);
+    /// # Ok::<(), tl_rattle::Refusal>(())
+    /// ```
+    #[inline]
+    pub fn finished(&self) -> Finished<'_, 'a> {
+        Finished::new(self)
+    }
+
     /// The handles below a tag: the first and the last, if there are any.
     ///
     /// # Errors
@@ -362,8 +397,18 @@ impl<'a> Dom<'a> {
     where
         I: AsRef<[u8]>,
     {
-        let found =
-            calls::get_element_by_id(self.profile, self.page, self.table(), manner, id.as_ref())?;
+        self.find_by_id(manner, View::All, id.as_ref())
+    }
+
+    /// The same in a view, which the closed manner ignores.
+    pub(crate) fn find_by_id(
+        &self,
+        manner: Manner,
+        view: View,
+        id: &[u8],
+    ) -> Result<Option<Handle>, Refusal> {
+        let (profile, page, table) = (self.profile, self.page, self.table());
+        let found = calls::get_element_by_id(profile, page, table, manner, view, id)?;
         Ok(found.map(row))
     }
 
@@ -380,17 +425,20 @@ impl<'a> Dom<'a> {
     where
         C: AsRef<[u8]>,
     {
-        let class = class.as_ref();
+        self.find_by_class(manner, View::All, class.as_ref())
+    }
+
+    /// The same in a view, which the closed manner ignores.
+    pub(crate) fn find_by_class(
+        &self,
+        manner: Manner,
+        view: View,
+        class: &[u8],
+    ) -> Result<Vec<Handle>, Refusal> {
+        let (profile, page, table) = (self.profile, self.page, self.table());
         // a class value may hold the class more than once, so there may be more finds than nodes
         let found = grown(self.len(), |out| {
-            calls::get_elements_by_class_name(
-                self.profile,
-                self.page,
-                self.table(),
-                manner,
-                class,
-                out,
-            )
+            calls::get_elements_by_class_name(profile, page, table, manner, view, class, out)
         })?;
         Ok(rows(found))
     }
@@ -403,9 +451,14 @@ impl<'a> Dom<'a> {
     where
         S: AsRef<[u8]>,
     {
-        let selector = selector.as_ref();
+        self.find(View::All, selector.as_ref())
+    }
+
+    /// The same in a view.
+    pub(crate) fn find(&self, view: View, selector: &[u8]) -> Result<Vec<Handle>, Refusal> {
+        let (profile, page, table) = (self.profile, self.page, self.table());
         let found = grown(self.len(), |out| {
-            calls::query_selector(self.profile, self.page, self.table(), selector, out)
+            calls::query_selector(profile, page, table, view, selector, out)
         })?;
         Ok(rows(found))
     }
@@ -422,17 +475,21 @@ impl<'a> Dom<'a> {
     where
         S: AsRef<[u8]>,
     {
-        let selector = selector.as_ref();
+        self.find_below(handle, View::All, selector.as_ref())
+    }
+
+    /// The same in a view, which need not show the tag.
+    pub(crate) fn find_below(
+        &self,
+        handle: Handle,
+        view: View,
+        selector: &[u8],
+    ) -> Result<Vec<Handle>, Refusal> {
+        let (profile, page, table) = (self.profile, self.page, self.table());
         let below = self.node(handle).map_or(0, |node| node.descendants().len());
         let found = grown(below, |out| {
-            calls::query_selector_below(
-                self.profile,
-                self.page,
-                self.table(),
-                handle.index(),
-                selector,
-                out,
-            )
+            let handle = handle.index();
+            calls::query_selector_below(profile, page, table, handle, view, selector, out)
         })?;
         Ok(rows(found))
     }

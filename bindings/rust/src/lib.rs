@@ -28,6 +28,26 @@
 //! # Ok::<(), Box<dyn std::error::Error>>(())
 //! ```
 //!
+//! # A page that broke off
+//!
+//! A page may end in the middle of a row. The lookups of a [`Dom`] find all rows, that one too, as a dealer wants to see
+//! them. Those of [`Dom::finished`] find only tags that are finished: closed by a closing tag with its `>`, or never open.
+//! So a position may be counted from them: what a class or selector finds there it finds in the whole page too, with the
+//! same text ([`Finished`]).
+//!
+//! ```
+//! let page = "<tr class=fill><td>120</td></tr><tr class=fill><td>80";
+//! let dom = tl_rattle::parse(page)?;
+//! assert_eq!(dom.query_selector("tr.fill")?.len(), 2);
+//! let counted = dom.finished().query_selector("tr.fill")?;
+//! assert_eq!(counted.len(), 1);
+//! let whole = format!("{page}0</td></tr>");
+//! let whole = tl_rattle::parse(&whole)?;
+//! assert_eq!(whole.inner_text(counted[0])?, b"120");
+//! assert_eq!(whole.finished().query_selector("tr.fill")?.len(), 2);
+//! # Ok::<(), tl_rattle::Refusal>(())
+//! ```
+//!
 //! # For those who know tl
 //!
 //! | tl | here |
@@ -39,6 +59,7 @@
 //! | `VDom::nodes`, `VDom::children`, `HTMLTag::children` | [`Dom::nodes`], [`Dom::children`], [`Node::children`] |
 //! | `Children::boundaries` | [`Dom::range`] |
 //! | `Attributes::get` | [`Dom::attribute`] |
+//! | `VDom::{get_element_by_id, get_elements_by_class_name, query_selector}` | the same of [`Dom`], over all nodes |
 //! | tracking of ids and classes | [`Manner::Closed`] |
 //! | `queryselector::Selector` | the [`Piece`]s of [`parse_query_selector`] |
 //! | white bytes and void tags, which are fixed | [`Profile`] and [`parse_with`]; [`Profile::TL`] has tl's |
@@ -61,6 +82,7 @@
 pub mod batch;
 pub mod calls;
 mod dom;
+mod finished;
 mod node;
 mod profile;
 mod refusal;
@@ -68,7 +90,8 @@ mod selector;
 pub mod sys;
 
 pub use dom::{parse, parse_into, parse_into_with, parse_with};
-pub use dom::{Dom, HTMLVersion, Held, Manner};
+pub use dom::{Dom, HTMLVersion, Held, Manner, View};
+pub use finished::Finished;
 pub use node::{Children, Ended, Handle, Kind, Node, Nodes};
 pub use profile::{Profile, ProfileError};
 pub use refusal::Refusal;

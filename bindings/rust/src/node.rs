@@ -151,6 +151,26 @@ impl<'d, 'a> Node<'d, 'a> {
         })
     }
 
+    /// Whether the node is a finished tag: a closing tag with its `>` closed it, or it was never open. A finished tag of a
+    /// page that broke off is one of the whole page too, read under the same profile, with the same row: the same places,
+    /// parent and last descendant.
+    ///
+    /// ```
+    /// let page = "<tr><td>120</td><td>XLON</td></tr>";
+    /// let finished = |page| -> Result<Vec<bool>, tl_rattle::Refusal> {
+    ///     let dom = tl_rattle::parse(page)?;
+    ///     let tags = dom.nodes().filter(|node| node.is_tag());
+    ///     Ok(tags.map(|tag| tag.is_finished()).collect())
+    /// };
+    /// assert_eq!(finished(&page[..28])?, [false, true, false]);
+    /// assert_eq!(finished(page)?, [true, true, true]);
+    /// # Ok::<(), tl_rattle::Refusal>(())
+    /// ```
+    #[inline]
+    pub fn is_finished(&self) -> bool {
+        matches!(self.ended(), Some(Ended::Closed | Ended::NeverOpened))
+    }
+
     /// Whether the node is a tag that a closing tag closed, with its `>` or cut short.
     #[inline]
     pub fn is_closed(&self) -> bool {

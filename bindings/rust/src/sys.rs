@@ -64,6 +64,11 @@ pub const TL_PROFILE_DEFAULT: tl_profile = tl_profile {
 pub const TL_SCAN: u32 = 0;
 /// The manner of a lookup over the closed tags, in closing order. Any number but 0 stands for it.
 pub const TL_CLOSED: u32 = 1;
+/// The view of all nodes.
+pub const TL_VIEW_ALL: u32 = 0;
+/// The view of the finished tags alone (word 8 is 1 or 3), in a scan or a query. Any number but 0 stands for it; in the closed
+/// manner it is ignored.
+pub const TL_VIEW_FINISHED: u32 = 1;
 /// The words of a table's header, before the first row.
 pub const TL_HEADER: u32 = 8;
 /// The words of a row.
@@ -126,8 +131,8 @@ extern "C" {
         count: *mut usize,
     ) -> u32;
 
-    /// The tag with an id: in the scan the lowest handle, else the one closed last. `answer`, two entries: how many
-    /// (0 or 1), the handle. Refused as 14, 1, 3.
+    /// The tag with an id: in the scan the lowest handle that the view shows, else the one closed last. `answer`, two
+    /// entries: how many (0 or 1), the handle. Refused as 14, 1, 3.
     pub fn tl_get_element_by_id(
         profile: *const tl_profile,
         page: *const u8,
@@ -135,13 +140,14 @@ extern "C" {
         table: *const u32,
         table_len: usize,
         manner: u32,
+        view: u32,
         id: *const u8,
         id_len: usize,
         answer: *mut usize,
     ) -> u32;
 
-    /// The tags with a class: in the scan each once, in handle order, else in closing order, once for each time.
-    /// `*count`: the handles written. Refused as 14, 1, 3, 7.
+    /// The tags with a class: in the scan those that the view shows, each once, in handle order, else in closing order, once
+    /// for each time. `*count`: the handles written. Refused as 14, 1, 3, 7.
     pub fn tl_get_elements_by_class_name(
         profile: *const tl_profile,
         page: *const u8,
@@ -149,6 +155,7 @@ extern "C" {
         table: *const u32,
         table_len: usize,
         manner: u32,
+        view: u32,
         name: *const u8,
         name_len: usize,
         out: *mut u32,
@@ -167,13 +174,15 @@ extern "C" {
         count: *mut usize,
     ) -> u32;
 
-    /// The nodes that a selector finds, in handle order. `*count`: the handles written. Refused as 14, 1, 3, 5, 6, 7.
+    /// The nodes that the view shows and a selector finds, in handle order. `*count`: the handles written. Refused as 14, 1,
+    /// 3, 5, 6, 7.
     pub fn tl_query_selector(
         profile: *const tl_profile,
         page: *const u8,
         page_len: usize,
         table: *const u32,
         table_len: usize,
+        view: u32,
         selector: *const u8,
         selector_len: usize,
         out: *mut u32,
@@ -181,7 +190,7 @@ extern "C" {
         count: *mut usize,
     ) -> u32;
 
-    /// The nodes below a tag that a selector finds. Refused as 14, 1, 3, 4, 5, 6, 7.
+    /// The same of the nodes below a tag, which need not be finished. Refused as 14, 1, 3, 4, 5, 6, 7.
     pub fn tl_query_selector_below(
         profile: *const tl_profile,
         page: *const u8,
@@ -189,6 +198,7 @@ extern "C" {
         table: *const u32,
         table_len: usize,
         handle: usize,
+        view: u32,
         selector: *const u8,
         selector_len: usize,
         out: *mut u32,

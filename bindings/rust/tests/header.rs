@@ -139,6 +139,8 @@ fn the_numbers() {
         [
             ("TL_SCAN", sys::TL_SCAN),
             ("TL_CLOSED", sys::TL_CLOSED),
+            ("TL_VIEW_ALL", sys::TL_VIEW_ALL),
+            ("TL_VIEW_FINISHED", sys::TL_VIEW_FINISHED),
             ("TL_HEADER", sys::TL_HEADER),
             ("TL_ROW", sys::TL_ROW),
             ("TL_ENDED_OPEN", sys::TL_ENDED_OPEN),

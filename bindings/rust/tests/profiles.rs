@@ -383,8 +383,8 @@ fn a_limit_of_one() {
 // ---- the profile of a page, in every way of asking
 
 /// Whether each way of asking finds what the tag of handle 1 holds: `id=i`, `class=c` and `k=v`.
-fn found(dom: &Dom) -> [bool; 10] {
-    let tag = Handle::new(1);
+fn found(dom: &Dom) -> [bool; 14] {
+    let (tag, finished) = (Handle::new(1), dom.finished());
     let held = Held::Value(b"v");
     let id = |manner| dom.get_element_by_id(manner, "i") == Ok(Some(tag));
     let class = |manner| dom.get_elements_by_class_name(manner, "c") == Ok(vec![tag]);
@@ -401,6 +401,10 @@ fn found(dom: &Dom) -> [bool; 10] {
         query("[k=v]"),
         query("#i.c"),
         below("[k=v]"),
+        finished.get_element_by_id("i") == Ok(Some(tag)),
+        finished.get_elements_by_class_name("c") == Ok(vec![tag]),
+        finished.query_selector("[k=v]") == Ok(vec![tag]),
+        finished.query_selector_below(Handle::new(0), "#i.c") == Ok(vec![tag]),
     ]
 }
 
@@ -410,20 +414,20 @@ fn a_page_is_asked_under_its_profile() {
     let page = "<t><p\tid=i\tclass=c\tk=v\tj>x</p></t>";
     let dom = parse_with(&tabs, page).unwrap();
     assert_eq!(dom.profile(), &tabs);
-    assert_eq!(found(&dom), [true; 10]);
+    assert_eq!(found(&dom), [true; 14]);
     let of_tl = parse(page).unwrap();
-    assert_eq!(found(&of_tl), [false; 10]);
+    assert_eq!(found(&of_tl), [false; 14]);
     // read into a lent table
     let mut table = vec![7; dom.table().len() + ROW_WORDS];
     let lent = parse_into_with(&tabs, page, &mut table).unwrap();
     assert_eq!(lent.table(), dom.table());
-    assert_eq!(found(&lent), [true; 10]);
+    assert_eq!(found(&lent), [true; 14]);
     // a table of either, asked under the other: attributes are read again by what that one sets
     let table = of_tl.table();
     let again = Dom::from_table_with(&tabs, page, table).unwrap();
-    assert_eq!(found(&again), [true; 10]);
+    assert_eq!(found(&again), [true; 14]);
     let again = Dom::from_table(page, dom.table()).unwrap();
-    assert_eq!(found(&again), [false; 10]);
+    assert_eq!(found(&again), [false; 14]);
     // what the table says is answered as it stands
     let texts = again.inner_texts(&[Handle::new(1)]).unwrap();
     assert_eq!(texts.get(0), Some(&b"x"[..]));

@@ -1,9 +1,12 @@
 //! The refusals of document 01, by their examples; and through `sys`, that a refused call leaves zeros in all that was
 //! lent to it to be written.
 
+mod common;
+
+use common::{below, class, id, query, Lent, FULL, VIEWS};
 use tl_rattle::{
     calls, parse, parse_into_with, parse_query_selector, parse_with, sys, words_for, Dom, Handle,
-    Manner, Profile, Refusal, HEADER_WORDS, MAX_PAGE,
+    Manner, Profile, Refusal, View, HEADER_WORDS, MAX_PAGE,
 };
 
 const TL: &Profile = &Profile::TL;
@@ -32,7 +35,7 @@ fn the_examples() {
     assert_eq!(said, Err(Refusal::SelectorNotRead));
     assert_eq!(dom.query_selector("a,"), Err(Refusal::SelectorNotRead));
     let dom = parse("<p>").unwrap();
-    let said = calls::query_selector(TL, dom.page(), dom.table(), b"p", &mut []);
+    let said = calls::query_selector(TL, dom.page(), dom.table(), View::All, b"p", &mut []);
     assert_eq!(said, Err(Refusal::BufferTooShort));
 }
 
@@ -70,41 +73,34 @@ fn any_words_as_a_table() {
         assert_eq!(Dom::from_table(page, table).err(), Some(refused));
         assert_eq!(calls::range(TL, page, table, 0), Err(refused));
         assert_eq!(calls::attribute(TL, page, table, 0, b"k"), Err(refused));
-        for manner in [Manner::Scan, Manner::Closed] {
-            let said = calls::get_element_by_id(TL, page, table, manner, b"i");
-            assert_eq!(said, Err(refused));
-            let mut out = [7; 2];
-            let said = calls::get_elements_by_class_name(TL, page, table, manner, b"c", &mut out);
-            assert_eq!((said, out), (Err(refused), [0; 2]));
-        }
         let mut out = [7; 2];
         let said = calls::inner_text(TL, page, table, 0, &mut out);
         assert_eq!((said, out), (Err(refused), [0; 2]));
-        let mut out = [7; 2];
-        let said = calls::query_selector(TL, page, table, b"a,", &mut out);
-        assert_eq!((said, out), (Err(refused), [0; 2]));
-        let mut out = [7; 2];
-        let said = calls::query_selector_below(TL, page, table, 0, b"a,", &mut out);
-        assert_eq!((said, out), (Err(refused), [0; 2]));
+        for view in [View::All, View::Finished] {
+            lookups_refused(table, view);
+        }
     }
 }
 
-/// A page, a table for it, and the profile that both are asked under.
-struct Lent {
-    profile: Profile,
-    page: Vec<u8>,
-    table: Vec<u32>,
+/// Each lookup that has a view, in any words as the table of a page.
+fn lookups_refused(table: &[u32], view: View) {
+    let (page, refused) = (b"a", Refusal::TableNotSound);
+    for manner in [Manner::Scan, Manner::Closed] {
+        let said = calls::get_element_by_id(TL, page, table, manner, view, b"i");
+        assert_eq!(said, Err(refused));
+        let mut out = [7; 2];
+        let said = calls::get_elements_by_class_name(TL, page, table, manner, view, b"c", &mut out);
+        assert_eq!((said, out), (Err(refused), [0; 2]));
+    }
+    let mut out = [7; 2];
+    let said = calls::query_selector(TL, page, table, view, b"a,", &mut out);
+    assert_eq!((said, out), (Err(refused), [0; 2]));
+    let mut out = [7; 2];
+    let said = calls::query_selector_below(TL, page, table, 0, view, b"a,", &mut out);
+    assert_eq!((said, out), (Err(refused), [0; 2]));
 }
 
 impl Lent {
-    fn read(page: &str) -> Lent {
-        Lent {
-            profile: Profile::TL,
-            page: page.into(),
-            table: parse(page).unwrap().table().to_vec(),
-        }
-    }
-
     /// Refused as 14, as 1, as 3, and as 4 at handle 1, each by every call that can be. What is refused as 14 would be
     /// refused as 1 under another profile, and what is refused as 1 or 14 has a table that is not sound.
     fn refused() -> [(u32, Lent); 4] {
@@ -228,8 +224,6 @@ fn what_the_places_leave_open_is_sound() {
     assert_eq!(with_row_changed("<p></p>", ENDED, 1, 2), Ok(()));
     assert_eq!(with_row_changed("<p></p", ENDED, 2, 1), Ok(()));
 }
-
-const FULL: usize = usize::MAX;
 
 fn reading(profile: &Profile, page: &[u8], table: &mut [u32]) -> (u32, usize) {
     let mut count = FULL;
@@ -355,25 +349,6 @@ fn a_text_leaves_zeros() {
     assert_eq!(&out, b"abc\x07\x07");
 }
 
-fn id(lent: &Lent, manner: u32, id: &[u8]) -> (u32, [usize; 2]) {
-    let mut answer = [FULL; 2];
-    // SAFETY: a profile, slices with their lengths, and an answer of two
-    let said = unsafe {
-        sys::tl_get_element_by_id(
-            lent.profile.as_raw(),
-            lent.page.as_ptr(),
-            lent.page.len(),
-            lent.table.as_ptr(),
-            lent.table.len(),
-            manner,
-            id.as_ptr(),
-            id.len(),
-            answer.as_mut_ptr(),
-        )
-    };
-    (said, answer)
-}
-
 #[test]
 fn an_id_leaves_zeros() {
     for (number, lent) in Lent::refused() {
@@ -381,30 +356,11 @@ fn an_id_leaves_zeros() {
             continue;
         }
         for manner in [sys::TL_SCAN, sys::TL_CLOSED, u32::MAX] {
-            assert_eq!(id(&lent, manner, b"i"), (number, [0; 2]));
+            for view in VIEWS {
+                assert_eq!(id(&lent, manner, view, b"i"), (number, [0; 2]));
+            }
         }
     }
-}
-
-fn class(lent: &Lent, manner: u32, class: &[u8], out: &mut [u32]) -> (u32, usize) {
-    let mut count = FULL;
-    // SAFETY: a profile, slices with their lengths, and a count of this function's own
-    let said = unsafe {
-        sys::tl_get_elements_by_class_name(
-            lent.profile.as_raw(),
-            lent.page.as_ptr(),
-            lent.page.len(),
-            lent.table.as_ptr(),
-            lent.table.len(),
-            manner,
-            class.as_ptr(),
-            class.len(),
-            out.as_mut_ptr(),
-            out.len(),
-            &mut count,
-        )
-    };
-    (said, count)
 }
 
 #[test]
@@ -414,24 +370,33 @@ fn a_class_leaves_zeros() {
             continue;
         }
         for manner in [sys::TL_SCAN, sys::TL_CLOSED, u32::MAX] {
-            let mut out = [7; 3];
-            assert_eq!(class(&lent, manner, b"c", &mut out), (number, 0));
-            assert_eq!(out, [0; 3]);
+            for view in VIEWS {
+                let mut out = [7; 3];
+                assert_eq!(class(&lent, manner, view, b"c", &mut out), (number, 0));
+                assert_eq!(out, [0; 3]);
+            }
         }
     }
+}
+
+/// All tags are finished here, so the views have the same finds.
+#[test]
+fn a_class_with_too_little_room_leaves_zeros() {
     let lent = Lent::read("<p class='c d c'><q class=c></q></p>");
-    let mut out = [7; 1];
-    assert_eq!(class(&lent, sys::TL_SCAN, b"c", &mut out), (7, 0));
-    assert_eq!(out, [0; 1]);
-    let mut out = [7; 2];
-    assert_eq!(class(&lent, sys::TL_CLOSED, b"c", &mut out), (7, 0));
-    assert_eq!(out, [0; 2]);
-    let mut out = [7; 3];
-    assert_eq!(class(&lent, sys::TL_SCAN, b"c", &mut out), (0, 2));
-    assert_eq!(out, [0, 1, 7]);
-    let mut out = [7; 4];
-    assert_eq!(class(&lent, sys::TL_CLOSED, b"c", &mut out), (0, 3));
-    assert_eq!(out, [1, 0, 0, 7]);
+    for view in VIEWS {
+        let mut out = [7; 1];
+        assert_eq!(class(&lent, sys::TL_SCAN, view, b"c", &mut out), (7, 0));
+        assert_eq!(out, [0; 1]);
+        let mut out = [7; 2];
+        assert_eq!(class(&lent, sys::TL_CLOSED, view, b"c", &mut out), (7, 0));
+        assert_eq!(out, [0; 2]);
+        let mut out = [7; 3];
+        assert_eq!(class(&lent, sys::TL_SCAN, view, b"c", &mut out), (0, 2));
+        assert_eq!(out, [0, 1, 7]);
+        let mut out = [7; 4];
+        assert_eq!(class(&lent, sys::TL_CLOSED, view, b"c", &mut out), (0, 3));
+        assert_eq!(out, [1, 0, 0, 7]);
+    }
 }
 
 fn pieces(selector: &[u8], out: &mut [u32]) -> (u32, usize) {
@@ -467,86 +432,61 @@ fn a_selector_leaves_zeros() {
     assert_eq!(out, [1, 0, 1, 0, 0, 1, 3, 2, 3, 0, 0, 0, 7]);
 }
 
-fn query(lent: &Lent, selector: &[u8], out: &mut [u32]) -> (u32, usize) {
-    let mut count = FULL;
-    // SAFETY: a profile, slices with their lengths, and a count of this function's own
-    let said = unsafe {
-        sys::tl_query_selector(
-            lent.profile.as_raw(),
-            lent.page.as_ptr(),
-            lent.page.len(),
-            lent.table.as_ptr(),
-            lent.table.len(),
-            selector.as_ptr(),
-            selector.len(),
-            out.as_mut_ptr(),
-            out.len(),
-            &mut count,
-        )
-    };
-    (said, count)
+#[test]
+fn a_query_leaves_zeros() {
+    for view in VIEWS {
+        for (number, lent) in Lent::refused() {
+            queries_refused(number, &lent, view);
+        }
+    }
+    // too little room, in any view: each `q` is finished
+    let lent = Lent::read("<p><q><q></q></q>");
+    for view in VIEWS {
+        let mut out = [7; 1];
+        assert_eq!(query(&lent, view, b"q", &mut out), (7, 0));
+        assert_eq!(out, [0; 1]);
+        let mut out = [7; 1];
+        assert_eq!(below(&lent, 0, view, b"q", &mut out), (7, 0));
+        assert_eq!(out, [0; 1]);
+        // accepted: the rest stays
+        let mut out = [7; 3];
+        assert_eq!(query(&lent, view, b"q", &mut out), (0, 2));
+        assert_eq!(out, [1, 2, 7]);
+        let mut out = [7; 3];
+        assert_eq!(below(&lent, 1, view, b"q", &mut out), (0, 1));
+        assert_eq!(out, [2, 7, 7]);
+    }
 }
 
-fn below(lent: &Lent, handle: usize, selector: &[u8], out: &mut [u32]) -> (u32, usize) {
-    let mut count = FULL;
-    // SAFETY: a profile, slices with their lengths, and a count of this function's own
-    let said = unsafe {
-        sys::tl_query_selector_below(
-            lent.profile.as_raw(),
-            lent.page.as_ptr(),
-            lent.page.len(),
-            lent.table.as_ptr(),
-            lent.table.len(),
-            handle,
-            selector.as_ptr(),
-            selector.len(),
-            out.as_mut_ptr(),
-            out.len(),
-            &mut count,
-        )
-    };
-    (said, count)
+/// Queries below handle 1, and those over the page unless the number is 4: they are refused and leave zeros.
+fn queries_refused(number: u32, lent: &Lent, view: u32) {
+    // whatever else would be refused later
+    for selector in [&b"a"[..], b"a,", &[b'a'; 129]] {
+        let mut out = [7; 3];
+        assert_eq!(below(lent, 1, view, selector, &mut out), (number, 0));
+        assert_eq!(out, [0; 3]);
+        if number == 4 {
+            continue;
+        }
+        let mut out = [7; 3];
+        assert_eq!(query(lent, view, selector, &mut out), (number, 0));
+        assert_eq!(out, [0; 3]);
+    }
 }
 
 #[test]
-fn a_query_leaves_zeros() {
-    let long = [b'a'; 129];
-    for (number, lent) in Lent::refused() {
-        // whatever else would be refused later
-        for selector in [&b"a"[..], b"a,", &long] {
+fn a_query_by_a_selector_that_is_refused_leaves_zeros() {
+    let lent = Lent::read("<p><q><q>");
+    for (number, selector) in [(5, &[b'a'; 129][..]), (6, b"a,")] {
+        for view in VIEWS {
             let mut out = [7; 3];
-            assert_eq!(below(&lent, 1, selector, &mut out), (number, 0));
+            assert_eq!(query(&lent, view, selector, &mut out), (number, 0));
             assert_eq!(out, [0; 3]);
-            if number == 4 {
-                continue;
-            }
             let mut out = [7; 3];
-            assert_eq!(query(&lent, selector, &mut out), (number, 0));
+            assert_eq!(below(&lent, 0, view, selector, &mut out), (number, 0));
             assert_eq!(out, [0; 3]);
         }
     }
-    let lent = Lent::read("<p><q><q>");
-    for (number, selector) in [(5, &long[..]), (6, b"a,")] {
-        let mut out = [7; 3];
-        assert_eq!(query(&lent, selector, &mut out), (number, 0));
-        assert_eq!(out, [0; 3]);
-        let mut out = [7; 3];
-        assert_eq!(below(&lent, 0, selector, &mut out), (number, 0));
-        assert_eq!(out, [0; 3]);
-    }
-    let mut out = [7; 1];
-    assert_eq!(query(&lent, b"q", &mut out), (7, 0));
-    assert_eq!(out, [0; 1]);
-    let mut out = [7; 1];
-    assert_eq!(below(&lent, 0, b"q", &mut out), (7, 0));
-    assert_eq!(out, [0; 1]);
-    // accepted: the rest stays
-    let mut out = [7; 3];
-    assert_eq!(query(&lent, b"q", &mut out), (0, 2));
-    assert_eq!(out, [1, 2, 7]);
-    let mut out = [7; 3];
-    assert_eq!(below(&lent, 1, b"q", &mut out), (0, 1));
-    assert_eq!(out, [2, 7, 7]);
 }
 
 fn attributes(lent: &Lent, handles: &[u32], name: &[u8], out: &mut [u32]) -> (u32, usize) {
@@ -661,8 +601,8 @@ fn a_list_leaves_zeros() {
     assert_eq!((ends, &out), ([6, 6, 7], b"abcdef\x07"));
 }
 
-/// What every call on the page says, each of which must refuse and leave zeros.
-fn all_refused(lent: &Lent) -> [u32; 11] {
+/// What every call on the page says, each of which must refuse and leave zeros. Those with a view are given this one.
+fn all_refused(lent: &Lent, view: u32) -> [u32; 11] {
     let mut table = [7; words_for(5)];
     let (read, count) = reading(&lent.profile, &lent.page, &mut table);
     assert_eq!((count, table), (0, [0; words_for(5)]));
@@ -670,7 +610,7 @@ fn all_refused(lent: &Lent) -> [u32; 11] {
     assert_eq!(answer, [0; 3]);
     let (of_attribute, answer) = attribute(lent, 0, b"k");
     assert_eq!(answer, [0; 3]);
-    let (of_id, answer) = id(lent, sys::TL_SCAN, b"i");
+    let (of_id, answer) = id(lent, sys::TL_SCAN, view, b"i");
     assert_eq!(answer, [0; 2]);
     let mut bytes = [7; 5];
     let (of_text, count) = text(lent, 0, &mut bytes);
@@ -678,9 +618,9 @@ fn all_refused(lent: &Lent) -> [u32; 11] {
     let mut words = [[7; 3]; 3];
     let [first, second, third] = &mut words;
     let said = [
-        class(lent, sys::TL_CLOSED, b"c", first),
-        query(lent, b"p", second),
-        below(lent, 0, b"p", third),
+        class(lent, sys::TL_CLOSED, view, b"c", first),
+        query(lent, view, b"p", second),
+        below(lent, 0, view, b"p", third),
     ];
     assert_eq!(words, [[0; 3]; 3]);
     let [of_class, of_query, of_below] = said.map(|(number, count)| {
@@ -744,10 +684,12 @@ fn a_profile_outside_its_limits() {
     for profile in not_fine() {
         assert!(!profile.is_fine(), "{profile:?}");
         read.profile = profile;
-        assert_eq!(all_refused(&read), [14; 11], "{profile:?}");
         // before 1, and so before all others
         long.profile = profile;
-        assert_eq!(all_refused(&long), [14; 11], "{profile:?}");
+        for view in VIEWS {
+            assert_eq!(all_refused(&read, view), [14; 11], "{profile:?}");
+            assert_eq!(all_refused(&long, view), [14; 11], "{profile:?}");
+        }
         let refused = Some(Refusal::ProfileNotFine);
         assert_eq!(parse_with(&profile, "a").err(), refused);
         let mut table = [7; words_for(1)];
@@ -774,7 +716,9 @@ fn a_page_over_a_profiles_limit() {
     let mut lent = Lent::read("<p k=v>abc</p>");
     let length = lent.page.len();
     lent.profile = Profile::TL.with_limit(length - 1).unwrap();
-    assert_eq!(all_refused(&lent), [1; 11]);
+    for view in VIEWS {
+        assert_eq!(all_refused(&lent, view), [1; 11]);
+    }
     lent.profile = Profile::TL.with_limit(length).unwrap();
     assert_eq!(range(&lent, 0), (0, [1, 1, 1]));
     for limit in [1, 2, 3, 255, 256, 257, MAX_PAGE - 1, MAX_PAGE] {
@@ -792,14 +736,16 @@ fn a_page_over_a_profiles_limit() {
 fn tried_in_the_order_of_their_numbers() {
     let long = [b'a'; 129];
     let [(_, not_fine), (_, all), (_, unsound), _] = Lent::refused();
-    let mut out = [7; 0];
-    assert_eq!(below(&not_fine, 9, &long, &mut out).0, 14);
-    assert_eq!(below(&all, 9, &long, &mut out).0, 1);
-    assert_eq!(below(&unsound, 9, &long, &mut out).0, 3);
-    let read = Lent::read("<p><q>");
-    assert_eq!(below(&read, 9, &long, &mut out).0, 4);
-    assert_eq!(below(&read, 0, &long, &mut out).0, 5);
-    assert_eq!(below(&read, 0, b"q,", &mut out).0, 6);
-    assert_eq!(below(&read, 0, b"q", &mut out).0, 7);
-    assert_eq!(below(&read, 1, b"q", &mut out).0, 0);
+    let read = Lent::read("<p><q></q>");
+    for view in VIEWS {
+        let said = |lent, handle, selector| below(lent, handle, view, selector, &mut []).0;
+        assert_eq!(said(&not_fine, 9, &long), 14);
+        assert_eq!(said(&all, 9, &long), 1);
+        assert_eq!(said(&unsound, 9, &long), 3);
+        assert_eq!(said(&read, 9, &long), 4);
+        assert_eq!(said(&read, 0, &long), 5);
+        assert_eq!(said(&read, 0, b"q,"), 6);
+        assert_eq!(said(&read, 0, b"q"), 7);
+        assert_eq!(said(&read, 1, b"q"), 0);
+    }
 }

@@ -19,7 +19,7 @@ ghost use Rattle.calls.specs.Calls.{Selects};
 use checks::{Checked, check, check_tag};
 use piece::Chain;
 use profile::SIZE;
-use rules::{Held, Manner, Refusal};
+use rules::{Held, Manner, Refusal, View};
 use sound::Document;
 use std::ops::Range;
 use tag::Tag;
@@ -122,7 +122,7 @@ pub fn inner_text(
 
 // ---- lookups by id and class: the manner is a part of the question, and no closure, since a caller of the exports says it by a number
 
-// The tag with an id: in a scan the lowest handle, else the one closed last.
+// The tag with an id: in a scan the lowest handle that the view shows, else the one closed last.
 #[tactic(auto, unfolding(rules::specs::Answers::id_answer))]
 pub fn get_element_by_id(
     profile: &[u8; SIZE],
@@ -136,7 +136,7 @@ pub fn get_element_by_id(
     let c = check(profile, page, table)?;
     let t = c.profile.marks();
     match manner {
-        Manner::Scan => Ok(vdom::id_scan(&t, &c.document, id)),
+        Manner::Scan(view) => Ok(vdom::id_scan(&t, &c.document, view, id)),
         Manner::Closed => Ok(closing::id_closed(&t, &c.document, id)),
     }
 }
@@ -149,12 +149,12 @@ fn list_class(c: &Checked, manner: Manner, class: &[u8], out: &mut [u32]) -> Res
 {
     let t = c.profile.marks();
     match manner {
-        Manner::Scan => vdom::class_scan(&t, &c.document, class, out),
+        Manner::Scan(view) => vdom::class_scan(&t, &c.document, view, class, out),
         Manner::Closed => closing::class_closed(&t, &c.document, class, out),
     }
 }
 
-// The tags with a class: in a scan each once in handle order, else in closing order, once for each time.
+// The tags with a class: in a scan those that the view shows, each once in handle order; else in closing order, once for each time.
 #[tactic(auto, unfolding(rules::specs::Answers::class_answer, rules::specs::Answers::class_buffer))]
 pub fn get_elements_by_class_name(
     profile: &[u8; SIZE],
@@ -180,10 +180,17 @@ pub fn get_elements_by_class_name(
 // ---- queries
 
 // The finds of a selector among these handles, or refusals 5, 6 and 7. A `Range` knows no document, so that it is said to be of this one.
-fn select(c: &Checked, handles: Range<usize>, s: &[u8], out: &mut [u32]) -> Result<usize, Refusal>
+fn select(
+    c: &Checked,
+    handles: Range<usize>,
+    view: View,
+    s: &[u8],
+    out: &mut [u32],
+) -> Result<usize, Refusal>
     requires { (handles.start ≤ handles.end) × (handles.end ≤ count_of c.now.document.table.now) }
     ensures { let d = c.now.document in
-        let finds = among (white_of c.now.profile.bytes.now) d.page.now d.table.now s.now (from handles.start (handles.end - handles.start)) in
+        let all = from handles.start (handles.end - handles.start) in
+        let finds = among (white_of c.now.profile.bytes.now) d.page.now d.table.now view s.now all in
         Selects finds s.now out.old result out.new }
 {
     let t = c.profile.marks();
@@ -197,37 +204,16 @@ fn select(c: &Checked, handles: Range<usize>, s: &[u8], out: &mut [u32]) -> Resu
         words: &words,
         pieces,
     };
-    vdom::query(&t, &c.document, handles, &chain, out)
+    vdom::query(&t, &c.document, view, handles, &chain, out)
 }
 
-// The nodes of the page that a selector finds, in handle order.
+// The nodes of the page that a view shows and a selector finds, in handle order.
 #[tactic(auto, unfolding(rules::specs::Answers::query_answer, rules::specs::Answers::query_buffer))]
 pub fn query_selector(
     profile: &[u8; SIZE],
     page: &[u8],
     table: &[u32],
-    s: &[u8],
-    out: &mut [u32],
-) -> Result<usize, Refusal>
-    ensures { let f = settings_of profile.now in
-        let p = page.now in
-        let ws = table.now in
-        let b = out.old in
-        Leaves (query_answer f p ws s.now (length b)) (query_buffer f p ws s.now b) result out.new }
-{
-    match check(profile, page, table) {
-        Err(why) => table::refuse(out, why),
-        Ok(c) => select(&c, 0..c.document.count(), s, out),
-    }
-}
-
-// The nodes below a tag that a selector finds, in handle order.
-#[tactic(auto, unfolding(rules::specs::Answers::query_below_answer, rules::specs::Answers::query_below_buffer))]
-pub fn query_selector_below(
-    profile: &[u8; SIZE],
-    page: &[u8],
-    table: &[u32],
-    h: usize,
+    view: View,
     s: &[u8],
     out: &mut [u32],
 ) -> Result<usize, Refusal>
@@ -236,14 +222,38 @@ pub fn query_selector_below(
         let ws = table.now in
         let b = out.old in
         let k = s.now in
-        Leaves (query_below_answer f p ws h k (length b)) (query_below_buffer f p ws h k b) result out.new }
+        Leaves (query_answer f p ws view k (length b)) (query_buffer f p ws view k b) result out.new }
+{
+    match check(profile, page, table) {
+        Err(why) => table::refuse(out, why),
+        Ok(c) => select(&c, 0..c.document.count(), view, s, out),
+    }
+}
+
+// The same of the nodes below a tag, which the view need not show.
+#[tactic(auto, unfolding(rules::specs::Answers::query_below_answer, rules::specs::Answers::query_below_buffer))]
+pub fn query_selector_below(
+    profile: &[u8; SIZE],
+    page: &[u8],
+    table: &[u32],
+    h: usize,
+    view: View,
+    s: &[u8],
+    out: &mut [u32],
+) -> Result<usize, Refusal>
+    ensures { let f = settings_of profile.now in
+        let p = page.now in
+        let ws = table.now in
+        let b = out.old in
+        let k = s.now in
+        Leaves (query_below_answer f p ws h view k (length b)) (query_below_buffer f p ws h view k b) result out.new }
 {
     match check_tag(profile, page, table, h) {
         Err(why) => table::refuse(out, why),
         Ok(c) => {
             let last = c.document.row(h).last as usize;
             // `h + 1..=last` would be a type of its own, and a flag at each step.
-            select(&c, h + 1..last + 1, s, out)
+            select(&c, h + 1..last + 1, view, s, out)
         }
     }
 }

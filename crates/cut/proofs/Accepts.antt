@@ -11,6 +11,8 @@ use borrow.Author.Tests.{eq-eqb, lt-ltb, le-ltb}
 use native.Mathlib.Decide.{dec_lt}
 use Rattle.rules.specs.declared.Node.{Node}
 use Rattle.rules.specs.declared.Refusal.{Refusal}
+use Rattle.rules.specs.declared.Manner.{Manner}
+use Rattle.rules.specs.declared.View.{View}
 use Rattle.rules.specs.Profile.{Settings}
 use Rattle.rules.specs.Reader.{node, no_node}
 use Rattle.rules.specs.Table.{node_at}
@@ -18,9 +20,10 @@ use Rattle.rules.specs.Sound.{count_of, last_at}
 use Rattle.rules.specs.Descends.{parents_in, Descends}
 use Rattle.rules.specs.Lookup.{lookup}
 use Rattle.rules.specs.Text.{inner_text}
+use Rattle.rules.specs.Finds.{by_class}
 use Rattle.rules.specs.Query.{over_page, below_tag}
 use Rattle.rules.specs.Refusals.{asking, asking_tag, counted}
-use Rattle.rules.specs.Answers.{reading, selected, text_answer, attribute_answer, query_answer, query_below_answer}
+use Rattle.rules.specs.Answers.{reading, selected, text_answer, attribute_answer, class_answer, query_answer, query_below_answer}
 use Rattle.laws.proofs.Nodes.{kind_in}
 use Rattle.laws.proofs.Tree.{parents, descendants}
 use Rattle.laws.proofs.Tables.{Accepted}
@@ -52,13 +55,18 @@ module _ {f : Settings} {p ws : List ℕ} (A : Accepted f p ws) where
   unfolding text_answer
   text_is h m t = asked_tag h (counted m (length (inner_text p ws h))) t
 
-  pub query_is : (s : List ℕ) (m : ℕ) → query_answer f p ws s m ≡ selected (over_page f.white p ws s) s m
-  unfolding query_answer
-  query_is s m = asked (selected (over_page f.white p ws s) s m)
+  pub class_is : (m : Manner) (k : List ℕ) (n : ℕ) → class_answer f p ws m k n ≡ counted n (length (by_class f.white p ws m k))
+  unfolding class_answer
+  class_is m k n = asked (counted n (length (by_class f.white p ws m k)))
 
-  pub below_is : (h : ℕ) (s : List ℕ) (m : ℕ) → IsTag ws h → query_below_answer f p ws h s m ≡ selected (below_tag f.white p ws s h) s m
+  pub query_is : (v : View) (s : List ℕ) (m : ℕ) → query_answer f p ws v s m ≡ selected (over_page f.white p ws v s) s m
+  unfolding query_answer
+  query_is v s m = asked (selected (over_page f.white p ws v s) s m)
+
+  pub below_is : (h : ℕ) (v : View) (s : List ℕ) (m : ℕ) → IsTag ws h
+      → query_below_answer f p ws h v s m ≡ selected (below_tag f.white p ws v s h) s m
   unfolding query_below_answer
-  below_is h s m t = asked_tag h (selected (below_tag f.white p ws s h) s m) t
+  below_is h v s m t = asked_tag h (selected (below_tag f.white p ws v s h) s m) t
 
   -- the table's parents and last handles are the reading's
   parent_is : (d : ℕ) → parents_in ws d ≡ parents ns d

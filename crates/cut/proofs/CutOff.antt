@@ -1,6 +1,6 @@
 -- A page cut off. The two tables hold the nodes of the two readings, and these agree on the beginning's tags (`Agree` of the laws).
 -- All that the public calls ask of a tag, its name, its attributes and what it reaches, is therefore the same in both.
-use Rattle.std.proofs.Common.{Ok}
+use Rattle.std.proofs.Common.{Result, Ok}
 use Prim.Native.Nat.{ℕ, suc, ◌-◌, ◌≤◌, ◌<◌}
 use native.Mathlib.Omega.{arith}
 use mathlib.Core.Bool.{Bool, true}
@@ -9,12 +9,15 @@ use mathlib.Core.List.{List}
 use lib.Dec.{ltb}
 use lib.ListN.{length, take, length-take}
 use borrow.Author.Tests.{eq-eqb, eqb-true, ltb-true}
+use Rattle.std.proofs.lemmas.Bool.{and_parts}
 use Rattle.rules.specs.Lists.{only}
 use Rattle.rules.specs.declared.Node.{Node}
+use Rattle.rules.specs.declared.Refusal.{Refusal}
 use Rattle.rules.specs.declared.Piece.{Piece}
 use Rattle.rules.specs.declared.Simple.{Simple}
 use Rattle.rules.specs.declared.Held.{Held}
 use Rattle.rules.specs.declared.Held.TheVariants.{Absent, Bare, Value}
+use Rattle.rules.specs.declared.View.TheVariants.{All}
 use Rattle.rules.specs.Profile.{Settings, settings_of, tl_profile}
 use Rattle.rules.specs.Reader.{node}
 use Rattle.rules.specs.Table.{node_at}
@@ -30,8 +33,8 @@ use Rattle.laws.proofs.Tree.{reach_same}
 use Rattle.laws.proofs.Lockstep.{Agree, agree}
 use Rattle.laws.proofs.Tables.{Accepted, accepted}
 use Rattle.cut.specs.Cut.{IsTag, Enough, Alike, CutOff, CutUnder, CutTheorem}
-use Rattle.cut.proofs.Finds.{same_finds, and_parts}
-use Rattle.cut.proofs.Selected.{selected_alike}
+use Rattle.cut.proofs.Finds.{same_finds}
+use Rattle.cut.proofs.Selected.{Both, both_selected}
 use Rattle.cut.proofs.Accepts.{tag_node_lem, node_tag, attribute_is, query_is, below_is, last_is, descends}
 
 -- the row that a test finds to be a tag is one
@@ -65,7 +68,7 @@ module _ (f : Settings) (p : List ℕ) (n : ℕ) (hn : n ≤ length p) where
   module _ {ws vs : List ℕ} (A : Accepted f q ws) (B : Accepted f p vs) where
     -- ---- clause 1
 
-    in_whole : (h : ℕ) → IsTag ws h → IsTag vs h × ((node_at vs h).opened ≤ n)
+    pub in_whole : (h : ℕ) → IsTag ws h → IsTag vs h × ((node_at vs h).opened ≤ n)
     in_whole h t =
         let e = (tag_node_lem A h t).1 in
         let v : IsTag vs h = node_tag B h (sym (G.kept h e).kind ∙ e) in
@@ -103,7 +106,7 @@ module _ (f : Settings) (p : List ℕ) (n : ℕ) (hn : n ≤ length p) where
       same_lookup : (k : List ℕ) → lookup f.white q (node_at ws h) k ≡ lookup f.white p (node_at vs h) k
       same_lookup k = rw (row, whole_row, G.opening h is_one, (G.kept h is_one).stop)
 
-      same_answer : (k : List ℕ) → answer f.white q (node_at ws h) k ≡ answer f.white p (node_at vs h) k
+      pub same_answer : (k : List ℕ) → answer f.white q (node_at ws h) k ≡ answer f.white p (node_at vs h) k
       unfolding answer
       same_answer k = rw (row, whole_row, G.opening h is_one, (G.kept h is_one).stop)
 
@@ -137,48 +140,69 @@ module _ (f : Settings) (p : List ℕ) (n : ℕ) (hn : n ≤ length p) where
           rw (eq-eqb (node_at ws h).kind 1 t.1, eq-eqb (node_at vs h).kind 1 one)
           (λ i. tag_fits s (same_name i) (λ k. same_answer k i) x)
 
-      same_match : (s : List ℕ) (ps : List Piece) → matches f.white q s ps (node_at ws h) ≡ matches f.white p s ps (node_at vs h)
+      pub same_match : (s : List ℕ) (ps : List Piece) → matches f.white q s ps (node_at ws h) ≡ matches f.white p s ps (node_at vs h)
       same_match s ps = λ i. meaning (λ x. same_fits s x i) ps
 
     -- row h of a table matches
     abbrev fits : List ℕ → List ℕ → List ℕ → List Piece → ℕ → Bool
     fits p ws s ps h = matches f.white p s ps (node_at ws h)
 
-    over_page_lem : (s : List ℕ) (ps : List Piece) → only (is_tag ws) (over_page f.white q ws s ps) ≡ only (is_tag ws) (over_page f.white p vs s ps)
+    over_page_lem : (s : List ℕ) (ps : List Piece)
+        → only (is_tag ws) (over_page f.white q ws All s ps) ≡ only (is_tag ws) (over_page f.white p vs All s ps)
     over_page_lem s ps =
         same_finds (is_tag ws) (fits q ws s ps) (fits p vs s ps) 0 (count_of ws) (count_of vs)
         (λ h e. same_match h (is_tag_lem ws h e) s ps)
         (λ h e l b. omega (arith, (in_whole h (is_tag_lem ws h e)).0.0))
         (λ h e l b. omega (arith, (is_tag_lem ws h e).0))
 
+    -- the tags of the beginning below h are the same in both
+    module _ (h : ℕ) (t : IsTag ws h) (d : ℕ) (u : IsTag ws d) (l : h < d) where
+      one : (node first d).kind ≡ 1
+      one = (tag_node_lem A d u).1
+
+      pub below_kept : d ≤ last_at ws h → d ≤ last_at vs h
+      below_kept r = omega (arith, reach_kept h d one l (omega (arith, last_is A h t)), last_is B h (in_whole h t).0)
+
+      pub below_found : d ≤ last_at vs h → d ≤ last_at ws h
+      below_found r = omega (arith, reach_found h d one l (omega (arith, last_is B h (in_whole h t).0)), last_is A h t)
+
     below_tag_lem : (h : ℕ) → IsTag ws h → (s : List ℕ) (ps : List Piece)
-        → only (is_tag ws) (below_tag f.white q ws s h ps) ≡ only (is_tag ws) (below_tag f.white p vs s h ps)
+        → only (is_tag ws) (below_tag f.white q ws All s h ps) ≡ only (is_tag ws) (below_tag f.white p vs All s h ps)
     below_tag_lem h t s ps =
-        let a : last_at ws h ≡ (node first h).last = last_is A h t in
-        let b : last_at vs h ≡ (node all h).last = last_is B h (in_whole h t).0 in
         same_finds (is_tag ws) (fits q ws s ps) (fits p vs s ps) (suc h) (last_at ws h - h) (last_at vs h - h)
         (λ d e. same_match d (is_tag_lem ws d e) s ps)
-        (λ d e l c. omega (arith, reach_kept h d (tag_node_lem A d (is_tag_lem ws d e)).1 l (omega arith)))
-        (λ d e l c. omega (arith, reach_found h d (tag_node_lem A d (is_tag_lem ws d e)).1 l (omega arith)))
+        (λ d e l c. omega (arith, below_kept h t d (is_tag_lem ws d e) l (omega arith)))
+        (λ d e l c. omega (arith, below_found h t d (is_tag_lem ws d e) l (omega arith)))
 
-    same_query : (s out out' : List ℕ) → Enough (query_answer f q ws s (length out)) → Enough (query_answer f p vs s (length out'))
-        → Alike ws (query_answer f q ws s (length out)) (query_buffer f q ws s out)
-        (query_answer f p vs s (length out')) (query_buffer f p vs s out')
+    -- of the finds that are tags of the beginning
+    abbrev Same : List ℕ → List ℕ → Type 0
+    Same fs gs = only (is_tag ws) fs ≡ only (is_tag ws) gs
+
+    alike : {a : Result ℕ Refusal} {out : List ℕ} {b : Result ℕ Refusal} {out' : List ℕ} → Both Same a out b out' → Alike ws a out b out'
+    alike s = record { refused = s.refused; finds = s.finds }
+
+    same_query : (s out out' : List ℕ) → Enough (query_answer f q ws All s (length out)) → Enough (query_answer f p vs All s (length out'))
+        → Alike ws (query_answer f q ws All s (length out)) (query_buffer f q ws All s out)
+        (query_answer f p vs All s (length out')) (query_buffer f p vs All s out')
     unfolding query_buffer
     same_query s out out' d e =
-        let a = query_is A s (length out) in
-        let b = query_is B s (length out') in
-        rw (a, b) (selected_alike ws (over_page f.white q ws s) (over_page f.white p vs s) (over_page_lem s) out out' s (rw a at d) (rw b at e))
+        let a = query_is A All s (length out) in
+        let b = query_is B All s (length out') in
+        rw (a, b)
+        (alike
+        (both_selected Same refl out out' (over_page f.white q ws All s) (over_page f.white p vs All s) (over_page_lem s) s (rw a at d) (rw b at e)))
 
     same_below : (h : ℕ) → IsTag ws h → (s out out' : List ℕ)
-        → Enough (query_below_answer f q ws h s (length out)) → Enough (query_below_answer f p vs h s (length out'))
-        → Alike ws (query_below_answer f q ws h s (length out)) (query_below_buffer f q ws h s out)
-        (query_below_answer f p vs h s (length out')) (query_below_buffer f p vs h s out')
+        → Enough (query_below_answer f q ws h All s (length out)) → Enough (query_below_answer f p vs h All s (length out'))
+        → Alike ws (query_below_answer f q ws h All s (length out)) (query_below_buffer f q ws h All s out)
+        (query_below_answer f p vs h All s (length out')) (query_below_buffer f p vs h All s out')
     unfolding query_below_buffer
     same_below h t s out out' d e =
-        let a = below_is A h s (length out) t in
-        let b = below_is B h s (length out') (in_whole h t).0 in
-        rw (a, b) (selected_alike ws (below_tag f.white q ws s h) (below_tag f.white p vs s h) (below_tag_lem h t s) out out' s (rw a at d) (rw b at e))
+        let a = below_is A h All s (length out) t in
+        let b = below_is B h All s (length out') (in_whole h t).0 in
+        rw (a, b)
+        (alike
+        (both_selected Same refl out out' (below_tag f.white q ws All s h) (below_tag f.white p vs All s h) (below_tag_lem h t s) s (rw a at d) (rw b at e)))
 
     all_clauses : CutOff f n q ws p vs
     all_clauses =

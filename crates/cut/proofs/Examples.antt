@@ -1,4 +1,5 @@
--- Texts of broken-off tags, and how a tag ended, as the public calls' definitions compute them, without a profile: pages cut at some of their bytes.
+-- Texts of broken-off tags, how a tag ended, and the finished tags, as the public calls' definitions compute them, without a profile: pages cut at
+-- some of their bytes.
 use Prim.Native.Nat.{ℕ}
 use mathlib.Core.Path.{◌≡◌, refl}
 use mathlib.Core.List.{List, [], ◌∷◌, map}
@@ -7,14 +8,16 @@ use Rattle.rules.specs.Ascii.{bytes}
 use Rattle.rules.specs.Names.{one_of}
 use Rattle.rules.specs.Profile.{base}
 use Rattle.rules.specs.Scan.{span, agree}
-use Rattle.rules.specs.Lists.{from, each}
+use Rattle.rules.specs.Lists.{from, only, each}
 use Rattle.rules.specs.Attributes.{attributes_end}
 use Rattle.rules.specs.Lexer.{comment_end, bang, tag, closing, markup, item_at}
 use Rattle.rules.specs.Reader.{close_into, put, step, steps, with_last}
 use Rattle.rules.specs.Table.{row_at, node_at, filled}
 use Rattle.rules.specs.Sound.{last_at, all, reaching}
+use Rattle.rules.specs.Finds.{handles}
 use Rattle.rules.specs.Answers.{parse_answer, parse_table, text_answer, text_buffer}
 use Rattle.cut.specs.Text.{given}
+use Rattle.cut.specs.View.{is_finished}
 
 -- five rows are enough
 abbrev table : List ℕ → List ℕ
@@ -55,3 +58,14 @@ endings : (map (ended_to (bytes "<p></p>")) (7 ∷ 6 ∷ 3 ∷ []) ≡ 1 ∷ 2 �
 unfolding span agree from each one_of attributes_end comment_end bang tag closing markup item_at close_into put step steps with_last
     node_at filled all reaching parse_answer parse_table text_answer text_buffer
 endings = (refl, refl, refl)
+
+-- the finished tags of a page's first n bytes, by their handles: a tag that is never opened is one once its `>` was read, another once
+-- the closing tag's was; so they come one by one, and none of them goes
+abbrev finished_to : List ℕ → ℕ → List ℕ
+finished_to p n = let ws = table (take n p) in only (is_finished ws) (handles ws)
+
+finished_tags : map (finished_to (bytes "<a><b></b><br></a>")) (9 ∷ 10 ∷ 13 ∷ 14 ∷ 17 ∷ 18 ∷ [])
+    ≡ [] ∷ (1 ∷ []) ∷ (1 ∷ []) ∷ (1 ∷ 2 ∷ []) ∷ (1 ∷ 2 ∷ []) ∷ (0 ∷ 1 ∷ 2 ∷ []) ∷ []
+unfolding span agree from only each one_of attributes_end comment_end bang tag closing markup item_at close_into put step steps with_last
+    node_at filled all reaching parse_answer parse_table
+finished_tags = refl

@@ -1,9 +1,10 @@
 -- Two walks over handles find the same, where what passes in the one passes in the other.
 use Prim.Native.Nat.{ℕ, zero, suc, ◌+◌, ◌≤◌, ◌<◌}
 use native.Mathlib.Omega.{arith}
-use mathlib.Core.Bool.{Bool, true, false, ◌&&◌}
+use mathlib.Core.Bool.{Bool, true, false, ◌&&◌, and-true}
 use mathlib.Core.Path.{◌≡◌, refl, sym, ◌∙◌}
 use mathlib.Core.List.{List, [], ◌∷◌}
+use Rattle.std.proofs.lemmas.Bool.{and_parts}
 use Rattle.rules.specs.Scan.{pick}
 use Rattle.rules.specs.Lists.{from, only}
 
@@ -50,17 +51,22 @@ same_only f g lo (suc k) (suc m) F G =
     go false e true d ih = let z : ◌≡◌ {A = ℕ} 0 1 = cc (G lo (omega arith) (omega arith) d).1 in absurd (omega arith)
     go false e false d ih = ih
 
-pub and_parts : (a b : Bool) → (a && b) ≡ true → (a ≡ true) × (b ≡ true)
-and_parts true b e = (refl, e)
-and_parts false b e = let z : ◌≡◌ {A = ℕ} 0 1 = cc in absurd (omega arith)
+-- Tests f and g that agree on what t passes, over ranges that hold the same of that: where f passes no other, it finds what t passes
+-- of g's finds.
+pub kept_finds : (t f g : ℕ → Bool) (lo k m : ℕ) → ((h : ℕ) → lo ≤ h → h < lo + k → f h ≡ true → t h ≡ true)
+    → ((h : ℕ) → t h ≡ true → f h ≡ g h)
+    → ((h : ℕ) → t h ≡ true → lo ≤ h → h < lo + k → h < lo + m) → ((h : ℕ) → t h ≡ true → lo ≤ h → h < lo + m → h < lo + k)
+    → only f (from lo k) ≡ only t (only g (from lo m))
+kept_finds t f g lo k m kept alike F G =
+    same_only f (λ h. g h && t h) lo k m
+    (λ h l b e. let q = kept h l b e in (F h q l b, rw (← alike h q, e) q))
+    (λ h l b e. let q = and_parts (g h) (t h) e in (G h q.1 l b, alike h q.1 ∙ q.0))
+    ∙ sym (only_only t g (from lo m))
 
--- Tests f and g that agree on what t passes, over ranges that hold the same of that.
+-- and else it finds the same of what t passes
 pub same_finds : (t f g : ℕ → Bool) (lo k m : ℕ) → ((h : ℕ) → t h ≡ true → f h ≡ g h)
     → ((h : ℕ) → t h ≡ true → lo ≤ h → h < lo + k → h < lo + m) → ((h : ℕ) → t h ≡ true → lo ≤ h → h < lo + m → h < lo + k)
     → only t (only f (from lo k)) ≡ only t (only g (from lo m))
 same_finds t f g lo k m alike F G =
     only_only t f (from lo k)
-    ∙ (same_only (λ h. f h && t h) (λ h. g h && t h) lo k m
-    (λ h l b e. let q = and_parts (f h) (t h) e in (F h q.1 l b, rw (← alike h q.1) e))
-    (λ h l b e. let q = and_parts (g h) (t h) e in (G h q.1 l b, rw (alike h q.1) e))
-    ∙ sym (only_only t g (from lo m)))
+    ∙ kept_finds t (λ h. f h && t h) g lo k m (λ h l b e. (and_parts (f h) (t h) e).1) (λ h e. rw (e, and-true) (alike h e)) F G

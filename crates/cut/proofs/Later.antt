@@ -1,10 +1,10 @@
--- What a reading that goes on leaves of the nodes that it had: texts and comments as they were. And where it goes on at a cut, or
+-- What a reading that goes on leaves of the nodes that it had: all but the open tags as they were. And where it goes on at a cut, or
 -- by an item that goes beyond one, the nodes that it adds end beyond that, but for an unfinished comment as the first of them.
 use Prim.Native.Nat.{ℕ, zero, suc, ◌≤◌, ◌<◌, pred}
 use native.Mathlib.Omega.{arith}
 use native.Mathlib.Decide.{dec_lt}
 use mathlib.Core.Bool.{Bool, ◌||◌}
-use mathlib.Core.Path.{◌≡◌, refl, ap, ◌∙◌}
+use mathlib.Core.Path.{◌≡◌, refl, ◌∙◌}
 use mathlib.Core.List.{List, [], ◌∷◌, ◌++◌}
 use lib.ListN.{length, set, length-append, length-set, get_or-append}
 use lib.Seq.{get_or-set_other}
@@ -23,24 +23,31 @@ use Rattle.laws.proofs.Nodes.{snoc_all, set_all, SameTag, same_closed, Ext, ext_
 use Rattle.laws.proofs.Lockstep.{put_at_lem, put_ext}
 use Rattle.laws.proofs.Soundness.{tags_set, put_fine}
 
--- ms has the nodes of ns, texts and comments unchanged, and then others
+-- a tag that has not ended
+abbrev pub IsOpen : Node → Type 0
+IsOpen t = (t.kind ≡ 1) × (t.ended ≡ 0)
+
+-- ms has the nodes of ns, unchanged but for open tags, and then others
 pub record Grows (ns ms : List Node) : Type 0 where
   pub ext : Ext 0 ns ms
-  pub leaf : (h : ℕ) → h < length ns → ((node ns h).kind ≡ 1 → ⊥) → node ms h ≡ node ns h
+  pub stays : (h : ℕ) → h < length ns → (IsOpen (node ns h) → ⊥) → node ms h ≡ node ns h
 
 grows_refl : (ns : List Node) → Grows ns ns
-grows_refl ns = record { ext = ext_refl 0 ns; leaf = λ h l k. refl }
+grows_refl ns = record { ext = ext_refl 0 ns; stays = λ h l k. refl }
 
 pub grows_trans : {ns ms ls : List Node} → Grows ns ms → Grows ms ls → Grows ns ls
 grows_trans a b =
     record {
       ext = ext_trans a.ext b.ext;
-      leaf = λ h l k. b.leaf h (omega (arith, a.ext.longer)) (λ z. k ((a.ext.old h l).kind ∙ z)) ∙ a.leaf h l k;
+      stays = λ h l k. let e = a.stays h l k in b.stays h (omega (arith, a.ext.longer)) (rw e k) ∙ e;
     }
 
-grows_set : (ns : List Node) (i : ℕ) (y : Node) → (node ns i).kind ≡ 1 → SameTag (node ns i) y → Grows ns (set ns i y)
-grows_set ns i y one s =
-    record { ext = ext_set 0 ns i y s; leaf = λ h l k. get_or-set_other ns i h y no_node (λ e. k (ap (λ (j : ℕ). (node ns j).kind) e ∙ one)) }
+-- another node in the place of an open tag
+set_stays : (ns : List Node) (i : ℕ) (y : Node) → IsOpen (node ns i) → (h : ℕ) → (IsOpen (node ns h) → ⊥) → node (set ns i y) h ≡ node ns h
+set_stays ns i y o h k = get_or-set_other ns i h y no_node (λ e. k (rw e o))
+
+grows_set : (ns : List Node) (i : ℕ) (y : Node) → IsOpen (node ns i) → SameTag (node ns i) y → Grows ns (set ns i y)
+grows_set ns i y o s = record { ext = ext_set 0 ns i y s; stays = λ h l k. set_stays ns i y o h k }
 
 pub grows_last : (l b : ℕ) (hs : List ℕ) (ns : List Node) → Tags ns b hs → Grows ns (with_last l hs ns)
 unfolding with_last
@@ -48,37 +55,34 @@ grows_last l b [] ns T = grows_refl ns
 grows_last l b (h ∷ hs) ns T =
     let t : Node = node ns h in
     let y : Node = settled t l in
-    grows_trans (grows_set ns h y T.1 (same_closed t t.end l t.ended)) (grows_last l h hs (set ns h y) (tags_set ns h h y hs (omega arith) T.3))
+    grows_trans (grows_set ns h y (T.1, T.2) (same_closed t t.end l t.ended)) (grows_last l h hs (set ns h y) (tags_set ns h h y hs (omega arith) T.3))
 
 module _ (white : ℕ → Bool) (void : List ℕ → Bool) (p : List ℕ) where
-  snoc_leaf : (ns : List Node) (x : Node) (h : ℕ) → h < length ns → node (ns ++ (x ∷ [])) h ≡ node ns h
-  snoc_leaf ns x h l = get_or-append ns (x ∷ []) no_node h l
+  snoc_stays : (ns : List Node) (x : Node) (h : ℕ) → h < length ns → node (ns ++ (x ∷ [])) h ≡ node ns h
+  snoc_stays ns x h l = get_or-append ns (x ∷ []) no_node h l
 
-  close_leaf : (r : Reading) (a e n b : ℕ) (hs : List ℕ) → Tags r.nodes b hs → (h : ℕ) → ((node r.nodes h).kind ≡ 1 → ⊥)
+  close_stays : (r : Reading) (a e n b : ℕ) (hs : List ℕ) → Tags r.nodes b hs → (h : ℕ) → (IsOpen (node r.nodes h) → ⊥)
       → node (close_into p r a e n hs).nodes h ≡ node r.nodes h
   unfolding close_into
-  close_leaf r a e n b [] T h k = refl
-  close_leaf r a e n b (i ∷ hs) T h k =
+  close_stays r a e n b [] T h k = refl
+  close_stays r a e n b (i ∷ hs) T h k =
       cases (λ (s : Reading). node s.nodes h ≡ node r.nodes h)
       (same (part p (node r.nodes i).name (node r.nodes i).stop) (part p a e))
-      (λ t. get_or-set_other r.nodes i h (closed (node r.nodes i) n (pred (length r.nodes)) (ended_by e n)) no_node other)
+      (λ t. set_stays r.nodes i (closed (node r.nodes i) n (pred (length r.nodes)) (ended_by e n)) (T.1, T.2) h k)
       (λ t. refl)
-    where
-      other : h ≡ i → ⊥
-      other q = k (ap (λ (j : ℕ). (node r.nodes j).kind) q ∙ T.1)
 
-  put_leaf : (r : Reading) (i : Item) → Fine r → (h : ℕ) → h < length r.nodes → ((node r.nodes h).kind ≡ 1 → ⊥)
+  put_stays : (r : Reading) (i : Item) → Fine r → (h : ℕ) → h < length r.nodes → (IsOpen (node r.nodes h) → ⊥)
       → node (put void p r i).nodes h ≡ node r.nodes h
   unfolding put
-  put_leaf r (Text e) F h l k = snoc_leaf r.nodes (leaf r 2 r.at e) h l
-  put_leaf r (Close a e n) F h l k = close_leaf r a e n (length r.nodes) r.opens F.tags h k
-  put_leaf r (Comment a e n) F h l k = snoc_leaf r.nodes (leaf r 3 a e) h l
-  put_leaf r (Doctype b n) F h l k = refl
-  put_leaf r (Tag a e n s) F h l k = snoc_leaf r.nodes (tag_node r a e n (s || void (part p a e))) h l
-  put_leaf r (Nothing n) F h l k = refl
+  put_stays r (Text e) F h l k = snoc_stays r.nodes (leaf r 2 r.at e) h l
+  put_stays r (Close a e n) F h l k = close_stays r a e n (length r.nodes) r.opens F.tags h k
+  put_stays r (Comment a e n) F h l k = snoc_stays r.nodes (leaf r 3 a e) h l
+  put_stays r (Doctype b n) F h l k = refl
+  put_stays r (Tag a e n s) F h l k = snoc_stays r.nodes (tag_node r a e n (s || void (part p a e))) h l
+  put_stays r (Nothing n) F h l k = refl
 
   pub put_grows : (r : Reading) (i : Item) → r.at < next i → Fine r → Grows r.nodes (put void p r i).nodes
-  put_grows r i l F = record { ext = put_ext white void 0 p r i (λ t. omega arith); leaf = put_leaf r i F }
+  put_grows r i l F = record { ext = put_ext white void 0 p r i (λ t. omega arith); stays = put_stays r i F }
 
   -- ---- from a reading on
 

@@ -6,4 +6,8 @@ pub mod Prefix
 pub mod Later
 pub mod TextNodes
 pub mod Text
+pub mod Keeping
+pub mod Shown
+pub mod FinishedNodes
+pub mod Stays
 pub mod Examples

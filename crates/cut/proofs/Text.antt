@@ -36,7 +36,7 @@ module _ {f : Settings} {p ws : List ℕ} (A : Accepted f p ws) (h : ℕ) (t : I
   last_in = (page_nested f.white f.void p).inside h (omega (arith, A.counted, t.0))
 
   -- the inner text by the table is that by the nodes
-  by_nodes : inner_text p ws h ≡ nodes_text p ns h
+  pub by_nodes : inner_text p ws h ≡ nodes_text p ns h
   by_nodes =
       let l : last_at ws h ≡ (node ns h).last = last_is A h t in
       rw (← l)

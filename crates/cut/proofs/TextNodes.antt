@@ -25,12 +25,12 @@ use Rattle.laws.proofs.Cut.{length_cut, here_cut}
 use Rattle.laws.proofs.CutLexer.{part_cut, item_grows, item_formed}
 use Rattle.laws.proofs.Nodes.{Ext, ext_trans, ext_last, kind_in}
 use Rattle.laws.proofs.Tree.{parents, last_length, page_nested, reach_same}
-use Rattle.laws.proofs.Lockstep.{Ending, there, short, Meets, meets, put_at_lem, put_ext, step_on, no_step}
+use Rattle.laws.proofs.Lockstep.{Ending, there, short, Meets, meets, put_at_lem, put_short, step_on, no_step}
 use Rattle.laws.proofs.Soundness.{begin_fine, put_fine, steps_fine}
 use Rattle.laws.proofs.Step.{adds, adds_few, put_count, NoText, item_text, item_no_text, steps_end}
 use Rattle.cut.specs.Text.{Prefix}
 use Rattle.cut.proofs.Prefix.{both_prefix, walk_prefix}
-use Rattle.cut.proofs.Later.{Grows, grows_trans, grows_last, put_grows, steps_grows, EndLate, late}
+use Rattle.cut.proofs.Later.{IsOpen, Grows, grows_trans, grows_last, put_grows, steps_grows, EndLate, late}
 
 -- the bytes of a text node; another node has none
 abbrev pub node_text : List ℕ → List Node → ℕ → List ℕ
@@ -78,8 +78,8 @@ module _ (void : List ℕ → Bool) (p : List ℕ) (r : Reading) where
   text_stays e ms G =
       let x : Node = leaf r 2 r.at e in
       let l : length (r.nodes ++ (x ∷ [])) ≡ length r.nodes + 1 = length-append r.nodes (x ∷ []) in
-      let two : (added (Text e)).kind ≡ 1 → ⊥ = λ z. let y : ◌≡◌ {A = ℕ} 2 1 = sym (ap (λ (t : Node). t.kind) (seam x)) ∙ z in omega arith in
-      (omega (arith, G.ext.longer), G.leaf (length r.nodes) (omega arith) two ∙ seam x)
+      let two : IsOpen (added (Text e)) → ⊥ = λ z. let y : ◌≡◌ {A = ℕ} 2 1 = sym (ap (λ (t : Node). t.kind) (seam x)) ∙ z.0 in omega arith in
+      (omega (arith, G.ext.longer), G.stays (length r.nodes) (omega arith) two ∙ seam x)
 
 module _ (white : ℕ → Bool) (void : List ℕ → Bool) (p : List ℕ) (n : ℕ) (hn : n ≤ length p) where
   abbrev q : List ℕ
@@ -92,7 +92,7 @@ module _ (white : ℕ → Bool) (void : List ℕ → Bool) (p : List ℕ) (n : �
   abbrev all : Reading
   all = steps white void p (length p) begin
 
-  meeting : Meets white void p n begin first all
+  abbrev meeting : Meets white void p n begin first all
   meeting = meets white void p n hn
 
   abbrev R : Reading
@@ -143,8 +143,7 @@ module _ (white : ℕ → Bool) (void : List ℕ → Bool) (p : List ℕ) (n : �
         grows = grows_trans (put_grows white void q R item (omega arith) R_fine) (grows_last k (length u.nodes) u.opens u.nodes F.tags);
         tags =
             λ b.
-            ext_trans (put_ext white void b q R item (λ t. let w : ◌≡◌ {A = ℕ} 0 1 = cc in absurd (omega arith)))
-            (ext_last b k u.opens u.nodes);
+            ext_trans (put_short white void p n R z b) (ext_last b k u.opens u.nodes);
         few = omega (arith, last_length k u.opens u.nodes, put_count void q R item, adds_few item);
       })
 
@@ -161,7 +160,7 @@ module _ (white : ℕ → Bool) (void : List ℕ → Bool) (p : List ℕ) (n : �
       (grows_trans (steps_grows white void p k r F)
       (grows_last (pred (length t.nodes)) (length t.nodes) t.opens t.nodes (steps_fine white void p k r l F).0.tags))
 
-  whole_grows : Grows R.nodes ms
+  pub whole_grows : Grows R.nodes ms
   whole_grows = settled meeting.rest R (omega (arith, ending.within)) R_fine meeting.going
 
   whole_late : EndLate white void p n c ms
@@ -173,14 +172,14 @@ module _ (white : ℕ → Bool) (void : List ℕ → Bool) (p : List ℕ) (n : �
 
   -- ---- the nodes of the common reading, in both
 
-  same_text : (d : ℕ) → d < c → node_text q ns d ≡ node_text p ms d
+  pub same_text : (d : ℕ) → d < c → node_text q ns d ≡ node_text p ms d
   same_text d l = go (ℕ_discrete (node R.nodes d).kind 2)
     where
       go : Dec ((node R.nodes d).kind ≡ 2) → node_text q ns d ≡ node_text p ms d
       go (yes k) =
-          let x : (node R.nodes d).kind ≡ 1 → ⊥ = λ z. omega (arith, k, z) in
-          let a : node ns d ≡ node R.nodes d = ending.grows.leaf d l x in
-          let b : node ms d ≡ node R.nodes d = whole_grows.leaf d l x in
+          let x : IsOpen (node R.nodes d) → ⊥ = λ z. omega (arith, k, z.0) in
+          let a : node ns d ≡ node R.nodes d = ending.grows.stays d l x in
+          let b : node ms d ≡ node R.nodes d = whole_grows.stays d l x in
           let i = R_fine.nodes d l in
           rw (a, b, part_cut p n (node R.nodes d).start (node R.nodes d).end (omega (arith, i.within, ending.within)))
       go (no k) =

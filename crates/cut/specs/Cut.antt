@@ -9,6 +9,7 @@ use Rattle.rules.specs.Query.{name_of}
 use Rattle.rules.specs.Answers.{parse_answer, parse_table, attribute_answer, attribute_part, query_answer, query_buffer, query_below_answer, query_below_buffer}
 use Rattle.rules.specs.declared.Refusal.{Refusal}
 use Rattle.rules.specs.declared.Refusal.TheVariants.{BufferTooShort}
+use Rattle.rules.specs.declared.View.TheVariants.{All}
 
 -- ---- the words of the statement
 
@@ -46,14 +47,15 @@ pub record CutOff (f : Settings) (n : ℕ) (q ws p vs : List ℕ) : Type 0 where
   -- 2. the same answer for every attribute name, and the same value bytes
   pub attribute : (h : ℕ) → IsTag ws h → (k : List ℕ) → attribute_answer f q ws h k ≡ attribute_answer f p vs h k
   pub value : (h : ℕ) → IsTag ws h → (k : List ℕ) → attribute_part f q ws h k ≡ attribute_part f p vs h k
-  -- 3. the same finds for every selector, over the page and below a tag, with enough space in both
-  pub query : (s out out' : List ℕ) → Enough (query_answer f q ws s (length out)) → Enough (query_answer f p vs s (length out'))
-      → Alike ws (query_answer f q ws s (length out)) (query_buffer f q ws s out)
-      (query_answer f p vs s (length out')) (query_buffer f p vs s out')
+  -- 3. the same finds for every selector, over the page and below a tag, in the view of all (View.antt has the other's), with enough
+  -- space in both
+  pub query : (s out out' : List ℕ) → Enough (query_answer f q ws All s (length out)) → Enough (query_answer f p vs All s (length out'))
+      → Alike ws (query_answer f q ws All s (length out)) (query_buffer f q ws All s out)
+      (query_answer f p vs All s (length out')) (query_buffer f p vs All s out')
   pub below : (h : ℕ) → IsTag ws h → (s out out' : List ℕ)
-      → Enough (query_below_answer f q ws h s (length out)) → Enough (query_below_answer f p vs h s (length out'))
-      → Alike ws (query_below_answer f q ws h s (length out)) (query_below_buffer f q ws h s out)
-      (query_below_answer f p vs h s (length out')) (query_below_buffer f p vs h s out')
+      → Enough (query_below_answer f q ws h All s (length out)) → Enough (query_below_answer f p vs h All s (length out'))
+      → Alike ws (query_below_answer f q ws h All s (length out)) (query_below_buffer f q ws h All s out)
+      (query_below_answer f p vs h All s (length out')) (query_below_buffer f p vs h All s out')
   -- 4. a tag's descendants, by parent, are the handles after its own up to its last, in either page
   pub descendants : (h : ℕ) → IsTag ws h → (d : ℕ) → Descends ws h d ↔ ((h < d) × (d ≤ last_at ws h))
   pub descendants_whole : (h : ℕ) → IsTag vs h → (d : ℕ) → Descends vs h d ↔ ((h < d) × (d ≤ last_at vs h))

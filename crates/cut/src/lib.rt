@@ -1,3 +1,3 @@
-// A page cut off: the statement is in specs/, its proof in proofs/. There is no code here.
+// A page cut off, and the view of the finished tags: the statements are in specs/, their proofs in proofs/. There is no code here.
 
 #![tactic(auto)]

@@ -23,15 +23,32 @@ use Rattle.rules.proofs.Pick.{cases}
 use Rattle.rules.proofs.Places.{here_below}
 use Rattle.laws.proofs.CutItem.{Ends, comment_end_lem, comment_cut, below}
 
--- An item i of a page and what stands in its place in the first n bytes: the same, or no tag, up to the cut.
+-- an item that may leave a finished tag: a tag, which may be never opened, or a closing tag whose `>` was passed
+abbrev pub finishes : Item → Bool
+finishes (Text e) = false
+finishes (Close a e n) = ltb e n
+finishes (Comment a e n) = false
+finishes (Doctype h n) = false
+finishes (Tag a e n s) = true
+finishes (Nothing n) = false
+
+pub no_tag_item : (i : Item) → finishes i ≡ false → is_tag_item i ≡ false
+no_tag_item (Text e) z = refl
+no_tag_item (Close a e n) z = refl
+no_tag_item (Comment a e n) z = refl
+no_tag_item (Doctype h n) z = refl
+no_tag_item (Tag a e n s) z = z
+no_tag_item (Nothing n) z = refl
+
+-- An item i of a page and what stands in its place in the first n bytes: the same, or what finishes no tag, up to the cut.
 pub data Cut (n : ℕ) (i j : Item) : Type 0 where
   whole : j ≡ i → next i ≤ n → Cut n i j
-  past : n < next i → next j ≡ n → is_tag_item j ≡ false → Cut n i j
+  past : n < next i → next j ≡ n → finishes j ≡ false → Cut n i j
 
 pub record Items (F : List ℕ → ℕ → Item) : Type 0 where
   pub grows : (p : List ℕ) (at : ℕ) → at ≤ length p → at ≤ next (F p at)
   pub within : (p : List ℕ) (at : ℕ) → at ≤ length p → next (F p at) ≤ length p
-  pub stop : (p : List ℕ) → is_tag_item (F p (length p)) ≡ false
+  pub stop : (p : List ℕ) → finishes (F p (length p)) ≡ false
   pub cut : (p : List ℕ) (n at : ℕ) → n < length p → at ≤ n → Cut n (F p at) (F (take n p) at)
 
 module _ {F : List ℕ → ℕ → Item} (S : Items F) where
@@ -169,12 +186,16 @@ module _ (white : ℕ → Bool) where
       record {
         grows = λ p at h. S.grows p at h;
         within = λ p at h. S.within p at h;
-        stop = λ p. refl;
+        stop = λ p. unclosed p (length p) (omega (arith, (skip_scans (other 62)).grows p (length p) (omega arith)));
         cut = λ p n at hn ha. go p n at hn ha (dec_lt (skip (other 62) p at) n);
       }
     where
       S : Scans (λ p at. pass p (skip (other 62) p at))
       S = then_scans (skip_scans (other 62)) pass_scans
+
+      -- its `>` is not there
+      unclosed : (p : List ℕ) (at : ℕ) → length p ≤ skip (other 62) p at → ltb (skip (other 62) p at) (pass p (skip (other 62) p at)) ≡ false
+      unclosed p at h = le-ltb (skip (other 62) p at) (pass p (skip (other 62) p at)) (omega arith)
 
       go : (p : List ℕ) (n at : ℕ) → n < length p → at ≤ n → Dec (skip (other 62) p at < n) → Cut n (closing p at) (closing (take n p) at)
       go p n at hn ha (yes h) =
@@ -182,7 +203,10 @@ module _ (white : ℕ → Bool) where
           let l : length (take n p) ≡ n = length_cut n p (omega arith) in
           let k : pass (take n p) (skip (other 62) p at) ≡ pass p (skip (other 62) p at) = omega arith in
           rw (e, k) (whole refl (omega arith))
-      go p n at hn ha (no h) = past (omega arith) (S.cut p n at (omega arith) ha ∙ omega arith) refl
+      go p n at hn ha (no h) =
+          let l : length (take n p) ≡ n = length_cut n p (omega arith) in
+          past (omega arith) (S.cut p n at (omega arith) ha ∙ omega arith)
+          (unclosed (take n p) at (omega (arith, (skip_scans (other 62)).cut p n at (omega arith) ha)))
 
   -- a declaration whose name starts at a place
   abbrev pub declaration : List ℕ → ℕ → Item
@@ -197,8 +221,8 @@ module _ (white : ℕ → Bool) where
       (λ t. (doctype_end.grows p w h, doctype_end.within p w h))
       (λ t. (omega arith, h))
 
-  declared_plain : (p : List ℕ) (x e w : ℕ) → is_tag_item (declaration_from white p x e w) ≡ false
-  declared_plain p x e w = cases (λ i. is_tag_item i ≡ false) (same_lower (part p x e) doctype_name) (λ t. refl) (λ t. refl)
+  declared_plain : (p : List ℕ) (x e w : ℕ) → finishes (declaration_from white p x e w) ≡ false
+  declared_plain p x e w = cases (λ i. finishes i ≡ false) (same_lower (part p x e) doctype_name) (λ t. refl) (λ t. refl)
 
   name_white : Scans (λ p x. skip white p (skip is_ident p x))
   name_white = then_scans (skip_scans is_ident) (skip_scans white)
@@ -310,8 +334,8 @@ commented : (p : List ℕ) (s x e : ℕ) → Ends p x e → ((x + 3 ≤ next (co
 commented p s x e (inl z) = rw z (inr refl, omega arith)
 commented p s x e (inr l) = rw (ne_eqb e 0 (λ z. omega (arith, l.0))) (inl l.0, l.1)
 
-comment_plain : (p : List ℕ) (s e : ℕ) → is_tag_item (comment_to p s e) ≡ false
-comment_plain p s e = cases (λ i. is_tag_item i ≡ false) (eqb e 0) (λ t. refl) (λ t. refl)
+comment_plain : (p : List ℕ) (s e : ℕ) → finishes (comment_to p s e) ≡ false
+comment_plain p s e = cases (λ i. finishes i ≡ false) (eqb e 0) (λ t. refl) (λ t. refl)
 
 pub comment_items : (s : ℕ) → Items (comment s)
 comment_items s =
@@ -379,7 +403,7 @@ module _ (white : ℕ → Bool) where
             (λ t. (declaration_items white).grows p x h);
         within = λ p x h. cases (λ i. next i ≤ length p) (here (is 45) p x && here (is 45) p (suc x)) (λ t. (comment_items s).within p x h)
             (λ t. (declaration_items white).within p x h);
-        stop = λ p. cases (λ i. is_tag_item i ≡ false) (here (is 45) p (length p) && here (is 45) p (suc (length p))) (λ t. (comment_items s).stop p)
+        stop = λ p. cases (λ i. finishes i ≡ false) (here (is 45) p (length p) && here (is 45) p (suc (length p))) (λ t. (comment_items s).stop p)
             (λ t. (declaration_items white).stop p);
         cut = λ p n x hn hx. bang_cut s p n x hn hx (dec_lt (suc x) n);
       }

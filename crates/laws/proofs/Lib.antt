@@ -9,3 +9,4 @@ pub mod Nested
 pub mod Tree
 pub mod Soundness
 pub mod Tables
+pub mod Finished

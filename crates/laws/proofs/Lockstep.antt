@@ -17,7 +17,7 @@ use Rattle.rules.specs.declared.Node.{Node}
 use Rattle.rules.specs.Reader.{node, Reading, leaf, tag_node, closed, ended_by, close_into, put, step, steps, begin, read}
 use Rattle.laws.proofs.Cut.{length_cut}
 use Rattle.rules.proofs.Pick.{cases}
-use Rattle.laws.proofs.CutLexer.{Cut, whole, past, name_to, Formed, formed_named, part_cut, item_cut, item_grows, item_formed}
+use Rattle.laws.proofs.CutLexer.{finishes, no_tag_item, Cut, whole, past, name_to, Formed, formed_named, part_cut, item_cut, item_grows, item_formed}
 use Rattle.laws.proofs.Nodes.{SameTag, same_closed, same_trans, same_sym, snoc_all, set_all, Ext, ext_refl, ext_trans, ext_snoc, ext_set, ext_last}
 
 module _ (white : ℕ → Bool) (void : List ℕ → Bool) where
@@ -126,12 +126,20 @@ module _ (white : ℕ → Bool) (void : List ℕ → Bool) where
 
 module _ (white : ℕ → Bool) (void : List ℕ → Bool) (p : List ℕ) (n : ℕ) where
   -- How the beginning's reading s goes on from a reading r that it has in common with the whole page's: it has come to the
-  -- cut, or one item more takes it there, which is no tag, where the whole page's item goes beyond.
+  -- cut, or one item more takes it there, which finishes no tag, where the whole page's item goes beyond.
   pub data Ending (r s : Reading) : Type 0 where
     there : r.at ≡ n → s ≡ r → Ending r s
     short : r.at < n → n < next (item_at white p r.at) → next (item_at white (take n p) r.at) ≡ n
-        → is_tag_item (item_at white (take n p) r.at) ≡ false
+        → finishes (item_at white (take n p) r.at) ≡ false
         → s ≡ put void (take n p) r (item_at white (take n p) r.at) → Ending r s
+
+  -- that item adds no tag
+  pub put_short : (r : Reading) → finishes (item_at white (take n p) r.at) ≡ false → (b : ℕ)
+      → Ext b r.nodes (put void (take n p) r (item_at white (take n p) r.at)).nodes
+  put_short r z b =
+      let i : Item = item_at white (take n p) r.at in
+      put_ext white void b (take n p) r i
+      (λ t. let w : is_tag_item i ≡ false = no_tag_item i z in let o : ◌≡◌ {A = ℕ} 0 1 = cc in absurd (omega arith))
 
   -- From r on the beginning's reading comes to s and the whole page's to t. They make the same steps up to a common reading.
   pub record Meets (r s t : Reading) : Type 0 where
@@ -251,8 +259,7 @@ module _ (white : ℕ → Bool) (void : List ℕ → Bool) (p : List ℕ) (n : �
           (record {
             common = m.common.nodes;
             bounded = λ h. omega (arith, d, m.good h);
-            beginning = λ b. put_ext white void b (take n p) m.common (item_at white (take n p) m.common.at)
-                (λ u. let o : ◌≡◌ {A = ℕ} 0 1 = cc in absurd (omega arith));
+            beginning = λ b. put_short white void p n m.common z b;
             beyond = past_cut m.rest m.common x;
           })
 

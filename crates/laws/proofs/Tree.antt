@@ -187,6 +187,20 @@ shape_finish ns hs S =
     rw (last_length (pred (length ns)) hs ns)
     (nested_cong S.nested (λ d l. sym ((ext_last 0 (pred (length ns)) hs ns).old d l).parent) (λ d l. last_is (pred (length ns)) hs ns d l))
 
+-- nothing has been read
+pub begin_shape : Shape begin.nodes begin.opens
+begin_shape =
+    record {
+      chain = tt;
+      nested = record {
+        lower = λ d l. absurd (omega arith);
+        own = λ d l. absurd (omega arith);
+        inside = λ d l. absurd (omega arith);
+        passed = λ d g l. absurd (omega arith);
+        reached = λ d g l. absurd (omega arith);
+      };
+    }
+
 module _ (white : ℕ → Bool) (void : List ℕ → Bool) (p : List ℕ) where
   abbrev Shaped : Reading → Type 0
   Shaped r = Shape r.nodes r.opens
@@ -208,7 +222,7 @@ module _ (white : ℕ → Bool) (void : List ℕ → Bool) (p : List ℕ) where
       let shut : Bool = s || void (part p a e) in shape_add r.nodes r.opens S (tag_node r a e n shut) refl refl shut
   put_shape r (Nothing n) S = S
 
-  steps_shape : (k : ℕ) (r : Reading) → Shaped r → Shaped (steps white void p k r)
+  pub steps_shape : (k : ℕ) (r : Reading) → Shaped r → Shaped (steps white void p k r)
   unfolding steps step
   steps_shape zero r S = S
   steps_shape (suc k) r S =
@@ -217,18 +231,7 @@ module _ (white : ℕ → Bool) (void : List ℕ → Bool) (p : List ℕ) where
   -- the parents and last descendants of a page's nodes
   pub page_nested : Nested (length (read white void p).nodes) (parents (read white void p).nodes) (λ d. (node (read white void p).nodes d).last)
   page_nested =
-      shape_finish (steps white void p (length p) begin).nodes (steps white void p (length p) begin).opens
-      (steps_shape (length p) begin
-      (record {
-        chain = tt;
-        nested = record {
-          lower = λ d l. absurd (omega arith);
-          own = λ d l. absurd (omega arith);
-          inside = λ d l. absurd (omega arith);
-          passed = λ d g l. absurd (omega arith);
-          reached = λ d g l. absurd (omega arith);
-        };
-      }))
+      shape_finish (steps white void p (length p) begin).nodes (steps white void p (length p) begin).opens (steps_shape (length p) begin begin_shape)
 
   has_parent : (d m : ℕ) → parents (read white void p).nodes d ≡ suc m → d < length (read white void p).nodes
   has_parent d m e = go (dec_lt d (length (read white void p).nodes))

@@ -102,7 +102,7 @@ pub fn record_at(s: &[u8], at: usize) -> Option<Record>
 
 // ---- what a record asks
 
-// What is asked, with the numbers that it takes. Handles, manners and places in a table or a profile are what a record says, whether
+// What is asked, with the numbers that it takes. Handles, manners, views and places in a table or a profile are what a record says, whether
 // or not they are any; room is how many entries are lent.
 #[derive(Clone, Copy)]
 pub enum Question {
@@ -110,11 +110,11 @@ pub enum Question {
     Range { handle: u32 },
     Attribute { handle: u32 },
     Text { handle: u32, room: u32 },
-    Id { manner: u32 },
-    Class { manner: u32, room: u32 },
+    Id { manner: u32, view: u32 },
+    Class { manner: u32, room: u32, view: u32 },
     Selector { room: u32 },
-    Query { room: u32 },
-    Below { handle: u32, room: u32 },
+    Query { view: u32, room: u32 },
+    Below { handle: u32, room: u32, view: u32 },
     Attributes { handles: u32, room: u32 },
     Texts { handles: u32, room: u32, ends: u32 },
     SetWord { place: u32, value: u32 },
@@ -138,11 +138,11 @@ impl TryFrom<Head> for Question {
             (2, handle, 0, 0, 0) => Question::Range { handle },
             (3, handle, 0, 0, _) => Question::Attribute { handle },
             (4, handle, room, 0, 0) => Question::Text { handle, room },
-            (5, manner, 0, 0, _) => Question::Id { manner },
-            (6, manner, room, 0, _) => Question::Class { manner, room },
+            (5, manner, view, 0, _) => Question::Id { manner, view },
+            (6, manner, room, view, _) => Question::Class { manner, room, view },
             (7, 0, room, 0, _) => Question::Selector { room },
-            (8, 0, room, 0, _) => Question::Query { room },
-            (9, handle, room, 0, _) => Question::Below { handle, room },
+            (8, view, room, 0, _) => Question::Query { view, room },
+            (9, handle, room, view, _) => Question::Below { handle, room, view },
             (10, handles, room, 0, _) => Question::Attributes { handles, room },
             (11, handles, room, ends, _) => Question::Texts {
                 handles,

@@ -3,7 +3,7 @@
 ghost use Rattle.std.specs.Prelude.{length};
 ghost use Rattle.rules.specs.Ascii.{bytes};
 ghost use Rattle.rules.specs.Profile.{settings_of};
-ghost use Rattle.rules.specs.Refusals.{manner_of, ranged_numbers, found_numbers, asked_numbers};
+ghost use Rattle.rules.specs.Refusals.{manner_of, view_of, ranged_numbers, found_numbers, asked_numbers};
 ghost use Rattle.rules.specs.Answers.{range_answer, text_answer, text_buffer, attribute_answer, id_answer, class_answer, class_buffer};
 ghost use Rattle.rules.specs.Answers.{query_answer, query_buffer, query_below_answer, query_below_buffer};
 ghost use Rattle.lines.specs.Writer.{Puts};
@@ -70,9 +70,9 @@ impl Document<'_> {
         records::put_line(out, b"text", &[number as usize, count], text);
     }
 
-    pub fn id(&self, manner: u32, id: &[u8], out: &mut Writer)
+    pub fn id(&self, manner: u32, view: u32, id: &[u8], out: &mut Writer)
         ensures { let f = settings_of self.now.profile.now in
-            let numbers = found_numbers (id_answer f self.now.page.now self.now.table.now (manner_of manner) id.now) in
+            let numbers = found_numbers (id_answer f self.now.page.now self.now.table.now (manner_of manner view) id.now) in
             Puts out.old (line (bytes "id") numbers) out.new }
     {
         let mut answer = [0; 2];
@@ -81,17 +81,18 @@ impl Document<'_> {
             self.page,
             self.table,
             manner,
+            view,
             id,
             &mut answer,
         );
         records::put_line(out, b"id", &[number], &answer);
     }
 
-    pub fn class(&self, manner: u32, class: &[u8], words: &mut [u32], out: &mut Writer)
+    pub fn class(&self, manner: u32, view: u32, class: &[u8], words: &mut [u32], out: &mut Writer)
         ensures { let f = settings_of self.now.profile.now in
             let p = self.now.page.now in
             let t = self.now.table.now in
-            let m = manner_of manner in
+            let m = manner_of manner view in
             let k = class.now in
             let b = words.old in
             Prints out.old (bytes "class") (class_answer f p t m k (length b)) (class_buffer f p t m k b) out.new words.new }
@@ -102,6 +103,7 @@ impl Document<'_> {
             self.page,
             self.table,
             manner,
+            view,
             class,
             words,
             &mut count,
@@ -109,19 +111,21 @@ impl Document<'_> {
         records::put_line(out, b"class", &[number as usize, count], words);
     }
 
-    pub fn query(&self, s: &[u8], words: &mut [u32], out: &mut Writer)
+    pub fn query(&self, view: u32, s: &[u8], words: &mut [u32], out: &mut Writer)
         ensures { let f = settings_of self.now.profile.now in
             let p = self.now.page.now in
             let t = self.now.table.now in
+            let v = view_of view in
             let k = s.now in
             let b = words.old in
-            Prints out.old (bytes "query") (query_answer f p t k (length b)) (query_buffer f p t k b) out.new words.new }
+            Prints out.old (bytes "query") (query_answer f p t v k (length b)) (query_buffer f p t v k b) out.new words.new }
     {
         let mut count = 0;
         let number = tl::tl_query_selector(
             self.profile,
             self.page,
             self.table,
+            view,
             s,
             words,
             &mut count,
@@ -129,13 +133,14 @@ impl Document<'_> {
         records::put_line(out, b"query", &[number as usize, count], words);
     }
 
-    pub fn below(&self, h: u32, s: &[u8], words: &mut [u32], out: &mut Writer)
+    pub fn below(&self, h: u32, view: u32, s: &[u8], words: &mut [u32], out: &mut Writer)
         ensures { let f = settings_of self.now.profile.now in
             let p = self.now.page.now in
             let t = self.now.table.now in
+            let v = view_of view in
             let k = s.now in
             let b = words.old in
-            Prints out.old (bytes "below") (query_below_answer f p t h k (length b)) (query_below_buffer f p t h k b) out.new words.new }
+            Prints out.old (bytes "below") (query_below_answer f p t h v k (length b)) (query_below_buffer f p t h v k b) out.new words.new }
     {
         let mut count = 0;
         let number = tl::tl_query_selector_below(
@@ -143,6 +148,7 @@ impl Document<'_> {
             self.page,
             self.table,
             h as usize,
+            view,
             s,
             words,
             &mut count,

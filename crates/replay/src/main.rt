@@ -3,18 +3,19 @@
 // bytes, and a line feed. W, B and E are how many entries are lent, each set to 9 before.
 //   1 W T 0   a page, the bytes T times over, read into W words          2 h 0 0   the range of h
 //   3 h 0 0   an attribute of h, the bytes its name                      4 h B 0   the inner text of h
-//   5 m 0 0   the tag with an id, in the manner m                        6 m B 0   the tags with a class
-//   7 0 B 0   the bytes as a selector                                    8 0 B 0   a query over the page
-//   9 h B 0   a query below h                                            12 i v 0  word i of the table becomes v
-//   14 i v 0  byte i of the profile becomes v, from 0 to 255; it is tl's at the start
+//   5 m v 0   the tag with an id, in the manner m, with the view v       6 m B v   the tags with a class
+//   7 0 B 0   the bytes as a selector                                    8 v B 0   a query over the page
+//   9 h B v   a query below h                                            12 i w 0  word i of the table becomes w
+//   14 i b 0  byte i of the profile becomes b, from 0 to 255; it is tl's at the start
 // Of a list of N handles, with which the bytes begin, each a number with a space after it:
 //   10 N B 0  an attribute of each tag, the rest of the bytes its name
 //   11 N B E  the inner texts, and into E entries where each ends
 //   13 N B K  the attributes of each tag for K names: K numbers like the handles, where the names end, and their text
 // The list in the file stdin beside src/, and in stdout what is to be printed for it, were recorded by tools/compare/run
-// --record. Accepted questions to a page have tl 0.7.8's own answers, those to a list of handles one tag after the other. The
-// words of a table are a model's, once tl's nodes agree with it; refusals, what a buffer holds, the answers about a table that was
-// changed, and those under another profile than tl's follow the rules.
+// --record. Accepted questions to a page have tl 0.7.8's own answers, those to a list of handles one tag after the other. tl has no
+// views: in the finished one a model leaves out of tl's finds those that are not finished, and says which tag has an id. The words of
+// a table are the model's, once tl's nodes agree with it; refusals, what a buffer holds, the answers about a table that was changed,
+// and those under another profile than tl's follow the rules.
 
 #![tactic(auto)]
 

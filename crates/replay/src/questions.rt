@@ -41,11 +41,15 @@ pub fn answer(
         Question::Range { handle } => document.range(handle, out),
         Question::Attribute { handle } => document.attribute(handle, body, out),
         Question::Text { handle, room } => document.text(handle, nines(text, room)?, out),
-        Question::Id { manner } => document.id(manner, body, out),
-        Question::Class { manner, room } => document.class(manner, body, nines(words, room)?, out),
+        Question::Id { manner, view } => document.id(manner, view, body, out),
+        Question::Class { manner, room, view } => {
+            document.class(manner, view, body, nines(words, room)?, out)
+        }
         Question::Selector { room } => selector(body, nines(words, room)?, out),
-        Question::Query { room } => document.query(body, nines(words, room)?, out),
-        Question::Below { handle, room } => document.below(handle, body, nines(words, room)?, out),
+        Question::Query { view, room } => document.query(view, body, nines(words, room)?, out),
+        Question::Below { handle, room, view } => {
+            document.below(handle, view, body, nines(words, room)?, out)
+        }
         Question::Attributes { room, .. } => {
             document.attributes(handles, body, nines(words, room)?, out)
         }

@@ -8,6 +8,7 @@ use Rattle.rules.specs.Ascii.{bytes}
 use Rattle.rules.specs.Questions.{Example, example, answers, said, tag_row, text_row, range, text, attribute, id, class, query, query_below, rows}
 use Rattle.rules.specs.Questions.{version, parse, own, foreign, selector}
 use Rattle.rules.specs.declared.Manner.TheVariants.{Scan, Closed}
+use Rattle.rules.specs.declared.View.TheVariants.{All, Finished}
 use Rattle.rules.specs.Scan.{span, agree}
 use Rattle.rules.specs.Lists.{from, only, each}
 use Rattle.rules.specs.Names.{one_of}
@@ -31,6 +32,10 @@ abbrev twins : List ℕ
 twins =
     (2 ∷ 0 ∷ 10 ∷ 8 ∷ 9 ∷ 0 ∷ 0 ∷ 0 ∷ [])
     ++ tag_row 0 10 1 2 9 0 1 1 ++ tag_row 0 10 1 2 9 1 1 2
+
+-- a page that broke off in a closing tag: a row that is open, a text, one that is never opened, one that is closed, one that was cut short
+abbrev broken_off : List ℕ
+broken_off = bytes "<b class=f id=a>x<br class=f><i class=f id=a></i><u class=f></u"
 
 abbrev examples : List Example
 examples =
@@ -58,15 +63,15 @@ examples =
     ((0 ∷ 1 ∷ []) ∷ ((1 ∷ 0 ∷ 65536 ∷ 8 ∷ 9 ∷ 0 ∷ 0 ∷ 0 ∷ []) ++ text_row 0 65536 0 0) ∷ [])
     ∷ example (replicate 65537 97) (parse 1) ((1 ∷ 0 ∷ []) ∷ (0 ∷ []) ∷ [])
     -- scan 0, closed 1; at equal ends the higher handle closes first
-    ∷ example (bytes "<p id=a></p><q id=a></q>") (own (id Scan (bytes "a"))) ((0 ∷ 1 ∷ 0 ∷ []) ∷ [])
+    ∷ example (bytes "<p id=a></p><q id=a></q>") (own (id (Scan All) (bytes "a"))) ((0 ∷ 1 ∷ 0 ∷ []) ∷ [])
     ∷ example (bytes "<p id=a></p><q id=a></q>") (own (id Closed (bytes "a"))) ((0 ∷ 1 ∷ 1 ∷ []) ∷ [])
     ∷ example (bytes "<p id=a>xx") (foreign twins (id Closed (bytes "a"))) ((0 ∷ 1 ∷ 0 ∷ []) ∷ [])
     -- the last id counts, and without a value it counts as absent; of another name the first counts
-    ∷ example (bytes "<p id=a id=b>") (own (id Scan (bytes "b"))) ((0 ∷ 1 ∷ 0 ∷ []) ∷ [])
-    ∷ example (bytes "<p id=a id>") (own (id Scan (bytes "a"))) ((0 ∷ 0 ∷ 0 ∷ []) ∷ [])
+    ∷ example (bytes "<p id=a id=b>") (own (id (Scan All) (bytes "b"))) ((0 ∷ 1 ∷ 0 ∷ []) ∷ [])
+    ∷ example (bytes "<p id=a id>") (own (id (Scan All) (bytes "a"))) ((0 ∷ 0 ∷ 0 ∷ []) ∷ [])
     ∷ example (bytes "<p k='1>' k=2>") (own (attribute 0 (bytes "k"))) ((0 ∷ 2 ∷ 6 ∷ 8 ∷ []) ∷ bytes "1>" ∷ [])
     -- a class in a scan once, closed once for each time, and not before its tag is closed
-    ∷ example (bytes "<p class='a\tb a'></p><p class=a>") (own (class Scan (bytes "a") 3)) ((0 ∷ 2 ∷ []) ∷ (0 ∷ 1 ∷ 0 ∷ []) ∷ [])
+    ∷ example (bytes "<p class='a\tb a'></p><p class=a>") (own (class (Scan All) (bytes "a") 3)) ((0 ∷ 2 ∷ []) ∷ (0 ∷ 1 ∷ 0 ∷ []) ∷ [])
     ∷ example (bytes "<p class='a\tb a'></p><p class=a>") (own (class Closed (bytes "a") 2)) ((0 ∷ 2 ∷ []) ∷ (0 ∷ 0 ∷ []) ∷ [])
     ∷ example (bytes "<p class='a\tb a'></p><p class=a>") (own (class Closed (bytes "a") 1)) ((7 ∷ 0 ∷ []) ∷ (0 ∷ []) ∷ [])
     ∷ example (bytes "<p class=a><q class=a></q></p>") (own (class Closed (bytes "a") 2)) ((0 ∷ 2 ∷ []) ∷ (1 ∷ 0 ∷ []) ∷ [])
@@ -87,21 +92,34 @@ examples =
     ∷ example (bytes "[k='v\"]") (selector 1) ((6 ∷ 0 ∷ []) ∷ (0 ∷ []) ∷ [])
     ∷ example (bytes "a b") (selector 11) ((7 ∷ 0 ∷ []) ∷ replicate 11 0 ∷ [])
     -- queries: `*` finds texts too; descendants never match; meaning from the right; below a tag without the tag itself
-    ∷ example (bytes "<p>x</p>") (own (query (bytes "*") 2)) ((0 ∷ 2 ∷ []) ∷ (0 ∷ 1 ∷ []) ∷ [])
-    ∷ example (bytes "<a></a><b><c></c></b>") (own (query (bytes "a,b c") 2)) ((0 ∷ 1 ∷ []) ∷ (0 ∷ 0 ∷ []) ∷ [])
-    ∷ example (bytes "<a></a><b><c></c></b>") (own (query (bytes "b>c") 2)) ((0 ∷ 0 ∷ []) ∷ (0 ∷ 0 ∷ []) ∷ [])
-    ∷ example (bytes "<p><p></p></p>") (own (query_below 0 (bytes "p") 1)) ((0 ∷ 1 ∷ []) ∷ (1 ∷ []) ∷ [])
-    ∷ example (bytes "<p>") (own (query (bytes ",") 1)) ((6 ∷ 0 ∷ []) ∷ (0 ∷ []) ∷ [])
+    ∷ example (bytes "<p>x</p>") (own (query All (bytes "*") 2)) ((0 ∷ 2 ∷ []) ∷ (0 ∷ 1 ∷ []) ∷ [])
+    ∷ example (bytes "<a></a><b><c></c></b>") (own (query All (bytes "a,b c") 2)) ((0 ∷ 1 ∷ []) ∷ (0 ∷ 0 ∷ []) ∷ [])
+    ∷ example (bytes "<a></a><b><c></c></b>") (own (query All (bytes "b>c") 2)) ((0 ∷ 0 ∷ []) ∷ (0 ∷ 0 ∷ []) ∷ [])
+    ∷ example (bytes "<p><p></p></p>") (own (query_below 0 All (bytes "p") 1)) ((0 ∷ 1 ∷ []) ∷ (1 ∷ []) ∷ [])
+    ∷ example (bytes "<p>") (own (query All (bytes ",") 1)) ((6 ∷ 0 ∷ []) ∷ (0 ∷ []) ∷ [])
+    -- all, and the finished tags alone: what room they need, and of two with an id the lower one
+    ∷ example broken_off (own (class (Scan All) (bytes "f") 4)) ((0 ∷ 4 ∷ []) ∷ (0 ∷ 2 ∷ 3 ∷ 4 ∷ []) ∷ [])
+    ∷ example broken_off (own (class (Scan Finished) (bytes "f") 2)) ((0 ∷ 2 ∷ []) ∷ (2 ∷ 3 ∷ []) ∷ [])
+    ∷ example broken_off (own (class (Scan Finished) (bytes "f") 1)) ((7 ∷ 0 ∷ []) ∷ (0 ∷ []) ∷ [])
+    ∷ example broken_off (own (query All (bytes "*") 5)) ((0 ∷ 5 ∷ []) ∷ (0 ∷ 1 ∷ 2 ∷ 3 ∷ 4 ∷ []) ∷ [])
+    ∷ example broken_off (own (query Finished (bytes "*") 2)) ((0 ∷ 2 ∷ []) ∷ (2 ∷ 3 ∷ []) ∷ [])
+    ∷ example broken_off (own (id (Scan All) (bytes "a"))) ((0 ∷ 1 ∷ 0 ∷ []) ∷ [])
+    ∷ example broken_off (own (id (Scan Finished) (bytes "a"))) ((0 ∷ 1 ∷ 3 ∷ []) ∷ [])
+    -- the finished ones below a tag that is open itself; and below a text
+    ∷ example broken_off (own (query_below 0 Finished (bytes ".f") 2)) ((0 ∷ 2 ∷ []) ∷ (2 ∷ 3 ∷ []) ∷ [])
+    ∷ example broken_off (own (query_below 1 Finished (bytes ".f") 1)) ((4 ∷ 0 ∷ []) ∷ (0 ∷ []) ∷ [])
     -- the kinds of piece with a value: word, beginning, end, part; an empty value
-    ∷ example (bytes "<p k='ab cd'>") (own (query (bytes "p[k=ab]") 1)) ((0 ∷ 0 ∷ []) ∷ (0 ∷ []) ∷ [])
-    ∷ example (bytes "<p k='ab cd'>") (own (query (bytes "[k~=ab][k^=ab][k$=cd][k*=d]") 1)) ((0 ∷ 1 ∷ []) ∷ (0 ∷ []) ∷ [])
-    ∷ example (bytes "<p k='ab cd'>") (own (query (bytes "[k~=b],[k^=b],[k$=c],[k*=bc]") 1)) ((0 ∷ 0 ∷ []) ∷ (0 ∷ []) ∷ [])
-    ∷ example (bytes "<p k='ab cd'>") (own (query (bytes "[k^=][k$=][k*=]") 1)) ((0 ∷ 1 ∷ []) ∷ (0 ∷ []) ∷ [])
-    ∷ example (bytes "<p k='ab cd'>") (own (query (bytes "[k~=]") 1)) ((0 ∷ 0 ∷ []) ∷ (0 ∷ []) ∷ [])
+    ∷ example (bytes "<p k='ab cd'>") (own (query All (bytes "p[k=ab]") 1)) ((0 ∷ 0 ∷ []) ∷ (0 ∷ []) ∷ [])
+    ∷ example (bytes "<p k='ab cd'>") (own (query All (bytes "[k~=ab][k^=ab][k$=cd][k*=d]") 1)) ((0 ∷ 1 ∷ []) ∷ (0 ∷ []) ∷ [])
+    ∷ example (bytes "<p k='ab cd'>") (own (query All (bytes "[k~=b],[k^=b],[k$=c],[k*=bc]") 1)) ((0 ∷ 0 ∷ []) ∷ (0 ∷ []) ∷ [])
+    ∷ example (bytes "<p k='ab cd'>") (own (query All (bytes "[k^=][k$=][k*=]") 1)) ((0 ∷ 1 ∷ []) ∷ (0 ∷ []) ∷ [])
+    ∷ example (bytes "<p k='ab cd'>") (own (query All (bytes "[k~=]") 1)) ((0 ∷ 0 ∷ []) ∷ (0 ∷ []) ∷ [])
     -- `~=` cuts at U+2003 and U+00A0, and not at other bytes of two or three
-    ∷ example (bytes "<p k=a" ++ (226 ∷ 128 ∷ 131 ∷ []) ++ bytes "b" ++ (194 ∷ 160 ∷ []) ++ bytes "c>") (own (query (bytes "[k~=a][k~=b][k~=c]") 1))
+    ∷ example (bytes "<p k=a" ++ (226 ∷ 128 ∷ 131 ∷ []) ++ bytes "b" ++ (194 ∷ 160 ∷ []) ++ bytes "c>")
+    (own (query All (bytes "[k~=a][k~=b][k~=c]") 1))
     ((0 ∷ 1 ∷ []) ∷ (0 ∷ []) ∷ [])
-    ∷ example (bytes "<p k=a" ++ (226 ∷ 128 ∷ 147 ∷ []) ++ bytes "b" ++ (194 ∷ 161 ∷ []) ++ bytes "c>") (own (query (bytes "[k~=a],[k~=b],[k~=c]") 1))
+    ∷ example (bytes "<p k=a" ++ (226 ∷ 128 ∷ 147 ∷ []) ++ bytes "b" ++ (194 ∷ 161 ∷ []) ++ bytes "c>")
+    (own (query All (bytes "[k~=a],[k~=b],[k~=c]") 1))
     ((0 ∷ 0 ∷ []) ∷ (0 ∷ []) ∷ [])
     ∷ []
 

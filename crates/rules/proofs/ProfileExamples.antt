@@ -4,6 +4,7 @@ use Rattle.rules.specs.Ascii.{bytes}
 use Rattle.rules.specs.Profile.{limit_of, white_of, void_name, void_of, name_byte_fine, name_fine, numbers_fine, profile_fine, in_places, tl_profile}
 use Rattle.rules.specs.Questions.{Example, example_under, answers, said, tag_row, text_row, range, attribute, class, query, rows, parse, own, foreign}
 use Rattle.rules.specs.declared.Manner.TheVariants.{Scan}
+use Rattle.rules.specs.declared.View.TheVariants.{All}
 use Rattle.rules.specs.Scan.{span, agree}
 use Rattle.rules.specs.Lists.{from, only, each}
 use Rattle.rules.specs.Names.{one_of}
@@ -52,7 +53,7 @@ examples =
     -- an unused white place does not make byte 0 white
     ∷ example_under tabs (tabbed (bytes "k=a" ++ (0 ∷ bytes "b>"))) (own (attribute 0 (bytes "k"))) ((0 ∷ 2 ∷ 5 ∷ 8 ∷ []) ∷ (97 ∷ 0 ∷ 98 ∷ []) ∷ [])
     -- class values are cut at a space still
-    ∷ example_under tabs (tabbed (bytes "class='a b'>")) (own (class Scan (bytes "b") 1)) ((0 ∷ 1 ∷ []) ∷ (0 ∷ []) ∷ [])
+    ∷ example_under tabs (tabbed (bytes "class='a b'>")) (own (class (Scan All) (bytes "b") 1)) ((0 ∷ 1 ∷ []) ∷ (0 ∷ []) ∷ [])
     -- `x` is void, and `br` is not; nor is the empty name, for an unused place
     ∷ example_under tabs (bytes "<x>a") rows (tag_row 0 3 1 2 3 0 0 3 ∷ text_row 3 4 0 1 ∷ [])
     ∷ example_under tabs (bytes "<br>a") rows (tag_row 0 4 1 3 4 0 1 0 ∷ text_row 4 5 1 1 ∷ [])
@@ -69,7 +70,7 @@ examples =
     ∷ example_under (altered 8 33) (bytes "a") (parse 2) refused
     ∷ example_under (altered 13 97) (bytes "a") (parse 2) refused
     ∷ example_under (bare 0) (bytes "a") (foreign [] (range 0)) ((14 ∷ 0 ∷ 0 ∷ 0 ∷ []) ∷ [])
-    ∷ example_under (bare 0) (bytes "a") (foreign [] (query (bytes "a") 2)) refused
+    ∷ example_under (bare 0) (bytes "a") (foreign [] (query All (bytes "a") 2)) refused
     ∷ []
 
 computed : answers examples ≡ said examples

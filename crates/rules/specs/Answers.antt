@@ -14,6 +14,7 @@ use Rattle.rules.specs.Query.{over_page, below_tag}
 use Rattle.rules.specs.Refusals.{on_page, asking, asking_tag, selector_too_long, counted, filled_by, asked_part}
 use Rattle.rules.specs.declared.Refusal.TheVariants.{TableTooSmall, SelectorTooLong, SelectorNotRead, BufferTooShort}
 use Rattle.rules.specs.declared.Manner.{Manner}
+use Rattle.rules.specs.declared.View.{View}
 use Rattle.rules.specs.declared.Piece.{Piece}
 use Rattle.rules.specs.declared.Refusal.{Refusal}
 use Rattle.rules.specs.declared.Held.{Held}
@@ -108,16 +109,17 @@ module _ (f : Settings) (p ws : List ℕ) where
   unfoldable pub class_buffer : Manner → List ℕ → List ℕ → List ℕ
   class_buffer m k out = filled_by out (by_class f.white p ws m k) (class_answer m k (length out))
 
-  -- the finds of the selector s over the whole page, into n words
-  unfoldable pub query_answer : List ℕ → ℕ → Result ℕ Refusal
-  query_answer s n = asking f p ws (selected (over_page f.white p ws s) s n)
+  -- the finds of the selector s over what the view shows of the whole page, into n words
+  unfoldable pub query_answer : View → List ℕ → ℕ → Result ℕ Refusal
+  query_answer v s n = asking f p ws (selected (over_page f.white p ws v s) s n)
 
-  unfoldable pub query_buffer : List ℕ → List ℕ → List ℕ
-  query_buffer s out = filled_by out (finds_of (over_page f.white p ws s) (read_selector s)) (query_answer s (length out))
+  unfoldable pub query_buffer : View → List ℕ → List ℕ → List ℕ
+  query_buffer v s out = filled_by out (finds_of (over_page f.white p ws v s) (read_selector s)) (query_answer v s (length out))
 
-  -- and below the tag h
-  unfoldable pub query_below_answer : ℕ → List ℕ → ℕ → Result ℕ Refusal
-  query_below_answer h s n = asking_tag f p ws h (selected (below_tag f.white p ws s h) s n)
+  -- and below the tag h, which the view need not show
+  unfoldable pub query_below_answer : ℕ → View → List ℕ → ℕ → Result ℕ Refusal
+  query_below_answer h v s n = asking_tag f p ws h (selected (below_tag f.white p ws v s h) s n)
 
-  unfoldable pub query_below_buffer : ℕ → List ℕ → List ℕ → List ℕ
-  query_below_buffer h s out = filled_by out (finds_of (below_tag f.white p ws s h) (read_selector s)) (query_below_answer h s (length out))
+  unfoldable pub query_below_buffer : ℕ → View → List ℕ → List ℕ → List ℕ
+  query_below_buffer h v s out =
+      filled_by out (finds_of (below_tag f.white p ws v s h) (read_selector s)) (query_below_answer h v s (length out))

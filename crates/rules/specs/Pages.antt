@@ -4,6 +4,7 @@ use Rattle.std.specs.Prelude.{List, [], ◌∷◌}
 use Rattle.rules.specs.Ascii.{bytes}
 use Rattle.rules.specs.Questions.{Example, example, tag_row, text_row, comment_row, range, attribute, id, query, rows, parse, own, foreign, selector}
 use Rattle.rules.specs.declared.Manner.TheVariants.{Scan, Closed}
+use Rattle.rules.specs.declared.View.TheVariants.{All}
 
 abbrev pub pages : List Example
 pages =
@@ -22,7 +23,7 @@ pages =
     ∷ example (bytes "<i b cd>") (own (attribute 0 (bytes "d"))) ((0 ∷ 1 ∷ 0 ∷ 0 ∷ []) ∷ [] ∷ [])
     ∷ example (bytes "<i b cd>") (own (attribute 0 (bytes "cd"))) ((0 ∷ 0 ∷ 0 ∷ 0 ∷ []) ∷ [] ∷ [])
     -- scan 0, closed none
-    ∷ example (bytes "<p id=a>") (own (id Scan (bytes "a"))) ((0 ∷ 1 ∷ 0 ∷ []) ∷ [])
+    ∷ example (bytes "<p id=a>") (own (id (Scan All) (bytes "a"))) ((0 ∷ 1 ∷ 0 ∷ []) ∷ [])
     ∷ example (bytes "<p id=a>") (own (id Closed (bytes "a"))) ((0 ∷ 0 ∷ 0 ∷ []) ∷ [])
     -- `x` lies in `b`
     ∷ example (bytes "<a><b></a>x") rows
@@ -41,5 +42,5 @@ pages =
     ∷ example (bytes "a") (parse 8) ((2 ∷ 0 ∷ []) ∷ (0 ∷ 0 ∷ 0 ∷ 0 ∷ 0 ∷ 0 ∷ 0 ∷ 0 ∷ []) ∷ [])
     ∷ example (bytes "a") (foreign (1 ∷ 0 ∷ 0 ∷ 0 ∷ 0 ∷ 0 ∷ 0 ∷ 0 ∷ 0 ∷ 0 ∷ 0 ∷ 0 ∷ 0 ∷ 0 ∷ 0 ∷ 0 ∷ []) (range 0)) ((3 ∷ 0 ∷ 0 ∷ 0 ∷ []) ∷ [])
     ∷ example (bytes "a") (own (range 0)) ((4 ∷ 0 ∷ 0 ∷ 0 ∷ []) ∷ [])
-    ∷ example (bytes "<p>") (own (query (bytes "p") 0)) ((7 ∷ 0 ∷ []) ∷ [] ∷ [])
+    ∷ example (bytes "<p>") (own (query All (bytes "p") 0)) ((7 ∷ 0 ∷ []) ∷ [] ∷ [])
     ∷ []

@@ -7,6 +7,7 @@ use Rattle.rules.specs.Sound.{tagged}
 use Rattle.rules.specs.Text.{below}
 use Rattle.rules.specs.Finds.{handles, passing, valued}
 use Rattle.rules.specs.declared.Node.{Node}
+use Rattle.rules.specs.declared.View.{View}
 use Rattle.rules.specs.declared.Span.{Span}
 use Rattle.rules.specs.declared.Simple.{Simple}
 use Rattle.rules.specs.declared.Simple.TheVariants.{Tag, Id, Class, All, Attribute, AttributeValue, AttributeValueWhitespacedContains}
@@ -75,10 +76,10 @@ node_fits white p s n x = pick (tagged n) (tag_fits s (name_of p n) (answer whit
 abbrev pub matches : (ℕ → Bool) → List ℕ → List ℕ → List Piece → Node → Bool
 matches white p s ps n = meaning (node_fits white p s n) ps
 
-module _ (white : ℕ → Bool) (p ws s : List ℕ) where
-  -- of the rows hs, those that match it
+module _ (white : ℕ → Bool) (p ws : List ℕ) (v : View) (s : List ℕ) where
+  -- of the rows hs that the view shows, those that match it
   abbrev pub among : List ℕ → List Piece → List ℕ
-  among hs ps = passing (matches white p s ps) ws hs
+  among hs ps = passing v (matches white p s ps) ws hs
 
   -- the finds over the whole page, and below a tag
   abbrev pub over_page : List Piece → List ℕ

@@ -7,6 +7,7 @@ use Rattle.rules.specs.Answers.{reading, parse_answer, parse_table, range_answer
 use Rattle.rules.specs.Answers.{class_answer, class_buffer, selector_answer, selector_buffer, query_answer, query_buffer, query_below_answer}
 use Rattle.rules.specs.Answers.{query_below_buffer}
 use Rattle.rules.specs.declared.Manner.{Manner}
+use Rattle.rules.specs.declared.View.{View}
 
 -- A question to a page's table. Each buffer lent is zeros, of as many entries as the last number says.
 pub data Question : Type 0 where
@@ -15,8 +16,8 @@ pub data Question : Type 0 where
   attribute : ℕ → List ℕ → Question
   id : Manner → List ℕ → Question
   class : Manner → List ℕ → ℕ → Question
-  query : List ℕ → ℕ → Question
-  query_below : ℕ → List ℕ → ℕ → Question
+  query : View → List ℕ → ℕ → Question
+  query_below : ℕ → View → List ℕ → ℕ → Question
 
 -- A question about bytes.
 pub data Asking : Type 0 where
@@ -40,8 +41,9 @@ module _ (f : Settings) (p : List ℕ) where
   answer_of ws (attribute h k) = asked_numbers (attribute_answer f p ws h k) ∷ attribute_part f p ws h k ∷ []
   answer_of ws (id m k) = found_numbers (id_answer f p ws m k) ∷ []
   answer_of ws (class m k n) = counted_numbers (class_answer f p ws m k n) ∷ class_buffer f p ws m k (zeros n) ∷ []
-  answer_of ws (query s n) = counted_numbers (query_answer f p ws s n) ∷ query_buffer f p ws s (zeros n) ∷ []
-  answer_of ws (query_below h s n) = counted_numbers (query_below_answer f p ws h s n) ∷ query_below_buffer f p ws h s (zeros n) ∷ []
+  answer_of ws (query v s n) = counted_numbers (query_answer f p ws v s n) ∷ query_buffer f p ws v s (zeros n) ∷ []
+  answer_of ws (query_below h v s n) =
+      counted_numbers (query_below_answer f p ws h v s n) ∷ query_below_buffer f p ws h v s (zeros n) ∷ []
 
   -- the table of the page's own reading
   abbrev table_of : List ℕ

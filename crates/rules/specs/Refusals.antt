@@ -10,6 +10,8 @@ use Rattle.rules.specs.declared.Refusal.TheVariants.{ProfileNotFine}
 use Rattle.rules.specs.declared.Held.{Held}
 use Rattle.rules.specs.declared.Manner.{Manner}
 use Rattle.rules.specs.declared.Manner.TheVariants.{Scan, Closed}
+use Rattle.rules.specs.declared.View.{View}
+use Rattle.rules.specs.declared.View.TheVariants.{All, Finished}
 use Rattle.rules.specs.declared.Held.TheVariants.{Absent, Bare, Value}
 
 -- the longest selector
@@ -99,10 +101,15 @@ Counts found b r out = Leaves (counted (length b) (length found)) (filled_by b f
 abbrev pub Refuses : {A : Type 0} → A → List A → Refusal → Result ℕ Refusal → List A → Type 0
 Refuses zero b why r out = Leaves (Err why) (replicate (length b) zero) r out
 
--- ---- a manner's number: 0 is the scan, any other number the closed manner
+-- ---- what a view's number and a manner's say
 
-abbrev pub manner_of : ℕ → Manner
-manner_of n = pick (eqb n 0) Scan Closed
+-- 0 shows all, any other number the finished tags alone
+abbrev pub view_of : ℕ → View
+view_of n = pick (eqb n 0) All Finished
+
+-- 0 is the scan in the view v, any other number the closed manner, in which v is ignored
+abbrev pub manner_of : ℕ → ℕ → Manner
+manner_of n v = pick (eqb n 0) (Scan (view_of v)) Closed
 
 -- ---- each answer in numbers: the refusal's number, or 0; the count; then its values. A refusal's count is 0. An attribute's answer has
 -- no count: in its place stands which of the three is held, 0 where it is absent, and 0 on a refusal too.

@@ -147,21 +147,62 @@ impl Held {
     }
 }
 
-// The two manners of a lookup: over all tags, or over those that a closing tag closed.
+// The nodes that a scan lookup or a query goes over: all, or the finished tags alone, those that a closing tag with its `>` closed or that
+// were never opened. Document 02 calls these the desk and the book; "reader" is here the one of pages.
+#[derive(Clone, Copy)]
+pub enum View {
+    All,
+    Finished,
+}
+
+impl View {
+    ghost use Rattle.std.specs.Prelude.{◌≡◌};
+    ghost use Rattle.rules.specs.Finds.{shows};
+
+    pub fn shows(self, n: &Node) -> bool
+        ensures { result ≡ shows self n.now }
+    {
+        match self {
+            View::All => true,
+            View::Finished => {
+                let closed = n.ended == Ended::Closed as u32;
+                n.is_tag() && (closed || n.ended == Ended::NeverOpened as u32)
+            }
+        }
+    }
+}
+
+impl From<u32> for View {
+    ghost use Rattle.std.specs.Prelude.{◌≡◌};
+    ghost use Rattle.rules.specs.Refusals.{view_of};
+
+    ghost from_gives = { λ n view. view ≡ view_of n };
+
+    fn from(n: u32) -> Self {
+        if n == 0 { View::All } else { View::Finished }
+    }
+}
+
+// The two manners of a lookup by id or class: over the tags that a view shows, or over those that a closing tag closed.
 #[derive(Clone, Copy)]
 pub enum Manner {
-    Scan,
+    Scan(View),
     Closed,
 }
 
-impl From<u32> for Manner {
+impl Manner {
     ghost use Rattle.std.specs.Prelude.{◌≡◌};
     ghost use Rattle.rules.specs.Refusals.{manner_of};
 
-    ghost from_gives = { λ n manner. manner ≡ manner_of n };
-
-    fn from(n: u32) -> Self {
-        if n == 0 { Manner::Scan } else { Manner::Closed }
+    // By two numbers, as a caller of the exports says it: that of the view counts in a scan alone.
+    pub fn of(manner: u32, view: u32) -> Manner
+        ensures { result ≡ manner_of manner view }
+    {
+        if manner == 0 {
+            Manner::Scan(View::from(view))
+        } else {
+            Manner::Closed
+        }
     }
 }
 

@@ -2,7 +2,7 @@
 
 ghost use Rattle.std.specs.Prelude.{◌≡◌, ◌∷◌, length};
 ghost use Rattle.rules.specs.Profile.{settings_of};
-ghost use Rattle.rules.specs.Refusals.{manner_of, ranged_numbers, found_numbers, asked_numbers};
+ghost use Rattle.rules.specs.Refusals.{manner_of, view_of, ranged_numbers, found_numbers, asked_numbers};
 ghost use Rattle.rules.specs.Answers.{parse_answer, parse_table, selector_answer, selector_buffer, range_answer, text_answer, text_buffer, query_below_buffer};
 ghost use Rattle.rules.specs.Answers.{attribute_answer, id_answer, class_answer, class_buffer, query_answer, query_buffer, query_below_answer};
 ghost use Rattle.rules.specs.Batch.{attributes_answer, attributes_buffer, names_answer, names_buffer, texts_answer, texts_buffer, ends_buffer};
@@ -10,7 +10,7 @@ ghost use Rattle.tl.specs.Exports.{Exports, ExportsBoth};
 
 use crate::numbers::{leave, range_numbers, tag_numbers};
 use profile::SIZE;
-use rules::{Held, Manner};
+use rules::{Held, Manner, View};
 
 // Reads a page into a table.
 pub fn tl_parse(profile: &[u8; SIZE], page: &[u8], table: &mut [u32], count: &mut usize) -> u32
@@ -72,19 +72,20 @@ pub fn tl_inner_text(
     leave(calls::inner_text(profile, page, table, h, out), count)
 }
 
-// The tag with an id: how many, and its handle.
+// The tag with an id: how many, and its handle. The view's number counts in a scan alone, here and in the next.
 pub fn tl_get_element_by_id(
     profile: &[u8; SIZE],
     page: &[u8],
     table: &[u32],
     manner: u32,
+    view: u32,
     id: &[u8],
     answer: &mut [usize; 2],
 ) -> u32
-    ensures { let at = id_answer (settings_of profile.now) page.now table.now (manner_of manner) id.now in
+    ensures { let at = id_answer (settings_of profile.now) page.now table.now (manner_of manner view) id.now in
         (result ∷ answer.new) ≡ found_numbers at }
 {
-    let manner = Manner::from(manner);
+    let manner = Manner::of(manner, view);
     let tag = calls::get_element_by_id(profile, page, table, manner, id);
     leave(tag.map(tag_numbers), answer)
 }
@@ -95,6 +96,7 @@ pub fn tl_get_elements_by_class_name(
     page: &[u8],
     table: &[u32],
     manner: u32,
+    view: u32,
     class: &[u8],
     out: &mut [u32],
     count: &mut usize,
@@ -102,12 +104,12 @@ pub fn tl_get_elements_by_class_name(
     ensures { let f = settings_of profile.now in
         let p = page.now in
         let ws = table.now in
-        let m = manner_of manner in
+        let m = manner_of manner view in
         let k = class.now in
         let b = out.old in
         Exports (class_answer f p ws m k (length b)) (class_buffer f p ws m k b) result count.new out.new }
 {
-    let manner = Manner::from(manner);
+    let manner = Manner::of(manner, view);
     leave(
         calls::get_elements_by_class_name(profile, page, table, manner, class, out),
         count,
@@ -128,6 +130,7 @@ pub fn tl_query_selector(
     profile: &[u8; SIZE],
     page: &[u8],
     table: &[u32],
+    view: u32,
     s: &[u8],
     out: &mut [u32],
     count: &mut usize,
@@ -135,11 +138,16 @@ pub fn tl_query_selector(
     ensures { let f = settings_of profile.now in
         let p = page.now in
         let ws = table.now in
+        let v = view_of view in
         let k = s.now in
         let b = out.old in
-        Exports (query_answer f p ws k (length b)) (query_buffer f p ws k b) result count.new out.new }
+        Exports (query_answer f p ws v k (length b)) (query_buffer f p ws v k b) result count.new out.new }
 {
-    leave(calls::query_selector(profile, page, table, s, out), count)
+    let view = View::from(view);
+    leave(
+        calls::query_selector(profile, page, table, view, s, out),
+        count,
+    )
 }
 
 // The nodes below a tag that a selector finds.
@@ -148,6 +156,7 @@ pub fn tl_query_selector_below(
     page: &[u8],
     table: &[u32],
     h: usize,
+    view: u32,
     s: &[u8],
     out: &mut [u32],
     count: &mut usize,
@@ -155,12 +164,14 @@ pub fn tl_query_selector_below(
     ensures { let f = settings_of profile.now in
         let p = page.now in
         let ws = table.now in
+        let v = view_of view in
         let k = s.now in
         let b = out.old in
-        Exports (query_below_answer f p ws h k (length b)) (query_below_buffer f p ws h k b) result count.new out.new }
+        Exports (query_below_answer f p ws h v k (length b)) (query_below_buffer f p ws h v k b) result count.new out.new }
 {
+    let view = View::from(view);
     leave(
-        calls::query_selector_below(profile, page, table, h, s, out),
+        calls::query_selector_below(profile, page, table, h, view, s, out),
         count,
     )
 }

@@ -6,7 +6,7 @@
 
 ghost use Rattle.std.specs.Prelude.{◌≡◌, ◌∷◌, length};
 ghost use Rattle.rules.specs.Profile.{settings_of};
-ghost use Rattle.rules.specs.Refusals.{manner_of, ranged_numbers, found_numbers, asked_numbers};
+ghost use Rattle.rules.specs.Refusals.{manner_of, view_of, ranged_numbers, found_numbers, asked_numbers};
 ghost use Rattle.rules.specs.Answers.{parse_answer, parse_table, selector_answer, selector_buffer, range_answer, text_answer, text_buffer, query_below_buffer};
 ghost use Rattle.rules.specs.Answers.{attribute_answer, id_answer, class_answer, class_buffer, query_answer, query_buffer, query_below_answer};
 ghost use Rattle.rules.specs.Batch.{attributes_answer, attributes_buffer, names_answer, names_buffer, texts_answer, texts_buffer, ends_buffer};
@@ -79,20 +79,21 @@ pub extern "C" fn tl_inner_text(
     tl::tl_inner_text(profile, page, table, h, out, count)
 }
 
-// The tag with an id: how many, and its handle.
+// The tag with an id: how many, and its handle. The view's number counts in a scan alone, here and in the next.
 #[unsafe(no_mangle)]
 pub extern "C" fn tl_get_element_by_id(
     profile: &[u8; SIZE],
     page: &[u8],
     table: &[u32],
     manner: u32,
+    view: u32,
     id: &[u8],
     answer: &mut [usize; 2],
 ) -> u32
-    ensures { let at = id_answer (settings_of profile.now) page.now table.now (manner_of manner) id.now in
+    ensures { let at = id_answer (settings_of profile.now) page.now table.now (manner_of manner view) id.now in
         (result ∷ answer.new) ≡ found_numbers at }
 {
-    tl::tl_get_element_by_id(profile, page, table, manner, id, answer)
+    tl::tl_get_element_by_id(profile, page, table, manner, view, id, answer)
 }
 
 // The tags with a class.
@@ -102,6 +103,7 @@ pub extern "C" fn tl_get_elements_by_class_name(
     page: &[u8],
     table: &[u32],
     manner: u32,
+    view: u32,
     class: &[u8],
     out: &mut [u32],
     count: &mut usize,
@@ -109,12 +111,12 @@ pub extern "C" fn tl_get_elements_by_class_name(
     ensures { let f = settings_of profile.now in
         let p = page.now in
         let ws = table.now in
-        let m = manner_of manner in
+        let m = manner_of manner view in
         let k = class.now in
         let b = out.old in
         Exports (class_answer f p ws m k (length b)) (class_buffer f p ws m k b) result count.new out.new }
 {
-    tl::tl_get_elements_by_class_name(profile, page, table, manner, class, out, count)
+    tl::tl_get_elements_by_class_name(profile, page, table, manner, view, class, out, count)
 }
 
 // Reads a selector into its pieces, 6 words each.
@@ -133,6 +135,7 @@ pub extern "C" fn tl_query_selector(
     profile: &[u8; SIZE],
     page: &[u8],
     table: &[u32],
+    view: u32,
     s: &[u8],
     out: &mut [u32],
     count: &mut usize,
@@ -140,11 +143,12 @@ pub extern "C" fn tl_query_selector(
     ensures { let f = settings_of profile.now in
         let p = page.now in
         let ws = table.now in
+        let v = view_of view in
         let k = s.now in
         let b = out.old in
-        Exports (query_answer f p ws k (length b)) (query_buffer f p ws k b) result count.new out.new }
+        Exports (query_answer f p ws v k (length b)) (query_buffer f p ws v k b) result count.new out.new }
 {
-    tl::tl_query_selector(profile, page, table, s, out, count)
+    tl::tl_query_selector(profile, page, table, view, s, out, count)
 }
 
 // The nodes below a tag that a selector finds.
@@ -154,6 +158,7 @@ pub extern "C" fn tl_query_selector_below(
     page: &[u8],
     table: &[u32],
     h: usize,
+    view: u32,
     s: &[u8],
     out: &mut [u32],
     count: &mut usize,
@@ -161,11 +166,12 @@ pub extern "C" fn tl_query_selector_below(
     ensures { let f = settings_of profile.now in
         let p = page.now in
         let ws = table.now in
+        let v = view_of view in
         let k = s.now in
         let b = out.old in
-        Exports (query_below_answer f p ws h k (length b)) (query_below_buffer f p ws h k b) result count.new out.new }
+        Exports (query_below_answer f p ws h v k (length b)) (query_below_buffer f p ws h v k b) result count.new out.new }
 {
-    tl::tl_query_selector_below(profile, page, table, h, s, out, count)
+    tl::tl_query_selector_below(profile, page, table, h, view, s, out, count)
 }
 
 // What each tag of a list holds for an attribute name, three words each.

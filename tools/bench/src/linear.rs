@@ -1,6 +1,6 @@
 //! Our calls on pages and tables of many nodes, at the greatest length and at half of it: linear time shows as a ratio of
 //! about 2, quadratic time as one of about 4.
-use crate::ours::{Names, Reader, CLOSED, SCAN};
+use crate::ours::{Names, Reader, CLOSED, FINISHED, SCAN};
 use crate::pages::{self, LIMIT};
 use crate::timing::{best, micros};
 use tl_rattle::{HEADER_WORDS, ROW_WORDS};
@@ -32,8 +32,11 @@ fn filled(part: &str, head: &str, n: usize) -> String {
     page
 }
 
+/// What is asked, and how.
+type Ask = (&'static str, fn(&mut Reader));
+
 /// What is asked of a page that was read.
-const CALLS: [(&str, fn(&mut Reader)); 7] = [
+const CALLS: [Ask; 10] = [
     ("inner text", |r| r.text_of(0)),
     ("class, scan", |r| r.class(SCAN, "a")),
     ("class, closed", |r| r.class(CLOSED, "a")),
@@ -41,6 +44,15 @@ const CALLS: [(&str, fn(&mut Reader)); 7] = [
     ("id, closed", |r| r.id(CLOSED, "a")),
     ("query `*`", |r| r.query("*")),
     ("query of four pieces", |r| r.query("a,.b,#c,[d]")),
+    ("class, scan, finished", |r| {
+        r.in_view(FINISHED, |r| r.class(SCAN, "a"))
+    }),
+    ("id, scan, finished", |r| {
+        r.in_view(FINISHED, |r| r.id(SCAN, "a"))
+    }),
+    ("query `*`, finished", |r| {
+        r.in_view(FINISHED, |r| r.query("*"))
+    }),
 ];
 
 fn line(what: &str, call: impl Fn(&mut Reader), whole: &mut Reader, half: &mut Reader) {

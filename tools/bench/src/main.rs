@@ -7,6 +7,7 @@ mod pages;
 mod profiles;
 mod theirs;
 mod timing;
+mod views;
 
 use pages::Page;
 use timing::{best, micros};
@@ -15,8 +16,8 @@ use timing::{best, micros};
 const STACK: usize = 4 << 30;
 
 /// The words that ask for other tables than those of the pages beside tl: void tags and names near theirs; what another profile
-/// costs, and what any costs a call; the version before; the times at half the length.
-const OTHERS: [&str; 5] = ["void", "profile", "call", "before", "linear"];
+/// costs, and what any costs a call; what the finished view costs; the version before; the times at half the length.
+const OTHERS: [&str; 6] = ["void", "profile", "call", "view", "before", "linear"];
 
 /// What is measured of one page: our time and tl's, in nanoseconds.
 struct Row {
@@ -163,6 +164,7 @@ fn other(word: &str, pages: &[Page], near: &[Page]) {
         "void" => void_and_near(near),
         "profile" => profiles::report(pages.iter().chain(near)),
         "call" => profiles::of_one_call(),
+        "view" => views::report(pages),
         #[cfg(before)]
         "before" => before::report(pages, near),
         "linear" => linear::report(),

@@ -9,6 +9,9 @@ use tl_rattle::{sys, words_for, Profile};
 pub const SCAN: u32 = 0;
 pub const CLOSED: u32 = 1;
 
+pub const ALL: u32 = 0;
+pub const FINISHED: u32 = 1;
+
 /// Rows enough for any page of 65,536 bytes, words for as many finds, and bytes for the texts of all rows.
 const NODES: usize = tl_rattle::max_nodes(tl_rattle::MAX_PAGE);
 const TEXTS: usize = 256 << 20;
@@ -52,15 +55,29 @@ pub fn in_turns<const N: usize>(
     ways: [Calls; N],
     call: impl Fn(&mut Reader),
 ) -> [f64; N] {
+    each_way(reader, ways, |reader, calls| {
+        reader.calls = calls;
+        call(reader);
+    })
+}
+
+/// The same in the finished view, and in that of all nodes.
+pub fn in_views(reader: &mut Reader, call: impl Fn(&mut Reader)) -> [f64; 2] {
+    each_way(reader, [FINISHED, ALL], |reader, view| {
+        reader.in_view(view, &call)
+    })
+}
+
+fn each_way<W: Copy, const N: usize>(
+    reader: &mut Reader,
+    ways: [W; N],
+    call: impl Fn(&mut Reader, W),
+) -> [f64; N] {
     // one reader for all, so that none has its buffers at a better place
     let reader = RefCell::new(reader);
-    best_of(ways.map(|calls| {
+    best_of(ways.map(|way| {
         let (reader, call) = (&reader, &call);
-        move || {
-            let reader = &mut *reader.borrow_mut();
-            reader.calls = calls;
-            call(reader);
-        }
+        move || call(&mut reader.borrow_mut(), way)
     }))
 }
 
@@ -83,9 +100,10 @@ macro_rules! ask {
     }};
 }
 
-/// A page, its table, and the buffers. All is asked by tl's profile, unless other calls are said.
+/// A page, its table, and the buffers. All is asked by tl's profile, unless other calls are said, and in the view of all nodes.
 pub struct Reader<'a> {
     pub calls: Calls,
+    view: u32,
     page: &'a [u8],
     table: Vec<u32>,
     finds: Vec<u32>,
@@ -99,6 +117,7 @@ impl<'a> Reader<'a> {
     pub fn new(page: &'a [u8]) -> Self {
         Reader {
             calls: BY_TLS,
+            view: ALL,
             page,
             table: vec![0; words_for(NODES)],
             finds: vec![0; NODES],
@@ -136,10 +155,18 @@ impl<'a> Reader<'a> {
         black_box(answer);
     }
 
+    /// Asks in this view.
+    pub fn in_view(&mut self, view: u32, call: impl Fn(&mut Self)) {
+        self.view = view;
+        call(self);
+        self.view = ALL;
+    }
+
     pub fn class(&mut self, manner: u32, name: &str) {
         let (mut count, finds) = (0, &mut self.finds);
         ask!(self.tl_get_elements_by_class_name(
             manner,
+            self.view,
             name.as_ptr(),
             name.len(),
             finds.as_mut_ptr(),
@@ -152,13 +179,14 @@ impl<'a> Reader<'a> {
     pub fn id(&mut self, manner: u32, name: &str) {
         let mut answer = [0; 2];
         let (start, len) = (name.as_ptr(), name.len());
-        ask!(self.tl_get_element_by_id(manner, start, len, answer.as_mut_ptr()));
+        ask!(self.tl_get_element_by_id(manner, self.view, start, len, answer.as_mut_ptr()));
         black_box(answer);
     }
 
     pub fn query(&mut self, selector: &str) {
         let finds = &mut self.finds;
         ask!(self.tl_query_selector(
+            self.view,
             selector.as_ptr(),
             selector.len(),
             finds.as_mut_ptr(),

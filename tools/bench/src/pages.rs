@@ -37,7 +37,7 @@ fn repeated(size: usize, head: &str, tail: &str, part: impl Fn(usize) -> String)
 
 /// A fill as a table's row, with its cells closed or left open.
 fn fill(i: usize, closed: bool) -> String {
-    let side = if i % 3 == 0 { "sell" } else { "buy" };
+    let side = if i.is_multiple_of(3) { "sell" } else { "buy" };
     let (td, tr) = if closed { ("</td>", "</tr>") } else { ("", "") };
     format!(
         "<tr class=\"fill {side}\" data-fill=\"F{i:06}\" data-rev=\"{}\" data-venue=\"XLON\" data-side={side}>\n  \

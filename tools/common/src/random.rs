@@ -8,6 +8,7 @@ enum Scale {
     Product,
 }
 
+#[derive(Clone)]
 pub struct Random {
     state: u64,
     scale: Scale,

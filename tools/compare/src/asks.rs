@@ -80,8 +80,8 @@ impl Asks {
             }
             Question::Id(_, id) => asks.ids.push(id.clone()),
             Question::Class(_, class) => asks.classes.push(class.clone()),
-            Question::Query(selector) => asks.selectors.push(selector.clone()),
-            Question::Below(_, selector) => {
+            Question::Query(_, selector) => asks.selectors.push(selector.clone()),
+            Question::Below(_, _, selector) => {
                 asks.below = tags
                     .into_iter()
                     .map(|tag| (tag, selector.clone()))

@@ -2,17 +2,20 @@
 //!
 //! The library is held to the paper, as the model has it. tl is held to the model too, answering in tl's way (`model::TL`),
 //! which is the paper's but for the departures of docs/DIFFERENCES.md. So library and tl agree wherever no departure is
-//! counted, and where one is counted both are what the list says. All this is under tl's profile; under others there is the model
-//! alone.
+//! counted, and where one is counted both are what the list says. All this is under tl's profile and in the view of all nodes; under
+//! others, and in the finished view, there is the model alone.
 mod lists;
+#[cfg(test)]
+mod tests;
 
 use crate::asks::Asks;
 use crate::ffi::LentProfile;
 use crate::findings::{Departure, Difference, Findings};
 use crate::model::{
-    self, tl_profile, Asked, Manner, Piece, Profile, ProfileBytes, Reading, Row, Way, PAPER,
-    SELECTOR_LIMIT, TL, TL_BYTES,
+    self, tl_profile, Asked, Manner, Piece, Profile, ProfileBytes, Reading, Row, View, Way,
+    MANNERS, PAPER, SELECTOR_LIMIT, TL, TL_BYTES, VIEWS,
 };
+use crate::numbers::{self, Numbers};
 use crate::ours::{self, Answer, Ours, Refusal};
 use crate::question::Question;
 use crate::tl_side::{self, as_str, TlPage, TlRow};
@@ -332,24 +335,58 @@ impl Run<'_, '_> {
         for (tag, name) in &asks.attributes {
             self.attribute(*tag, name);
         }
-        for manner in [Manner::Scan, Manner::Closed] {
-            for id in &asks.ids {
-                self.id(manner, id);
-            }
-            for class in &asks.classes {
-                self.class(manner, class);
-            }
+        for manner in MANNERS {
+            self.lookups(manner, asks);
         }
-        for selector in &asks.selectors {
-            self.query(selector);
-        }
-        for (tag, selector) in &asks.below {
-            self.query_below(*tag, selector);
+        for view in VIEWS {
+            self.queries(view, asks);
         }
         for list in &asks.lists {
             self.list(list);
         }
         self.no_tag();
+    }
+
+    fn lookups(&mut self, manner: Manner, asks: &Asks) {
+        let before = self.found.answers;
+        for id in &asks.ids {
+            self.id(manner, id);
+        }
+        for class in &asks.classes {
+            self.class(manner, class);
+        }
+        if let Manner::Scan(view) = manner {
+            self.count_view(view, before);
+        }
+    }
+
+    fn queries(&mut self, view: View, asks: &Asks) {
+        let before = self.found.answers;
+        for selector in &asks.selectors {
+            self.query(view, selector);
+        }
+        for (tag, selector) in &asks.below {
+            self.query_below(*tag, view, selector);
+        }
+        self.count_view(view, before);
+    }
+
+    /// The answers since there were so many are in this view.
+    fn count_view(&mut self, view: View, before: u64) {
+        self.found.covered.in_view[view as usize] += self.found.answers - before;
+    }
+
+    /// Whether the finished view answers a lookup in another way than that of all nodes.
+    fn count_unlike_all<T: PartialEq>(
+        &mut self,
+        manner: Manner,
+        answer: &T,
+        in_manner: impl Fn(&Asked, Manner) -> T,
+    ) {
+        if manner == Manner::Scan(View::Finished) && self.refusal.is_none() {
+            let in_all = in_manner(&self.asked, Manner::Scan(View::All));
+            self.found.covered.unlike_all += (*answer != in_all) as u64;
+        }
     }
 
     /// tl keeps no place after a tag's opening `>` once the tag is closed. But it has the tag in the page cut off at that
@@ -412,82 +449,104 @@ impl Run<'_, '_> {
         check_ours(&mut self.found, ask, ours, &paper);
     }
 
-    /// What the model says in tl's way, and a departure if that is not what it says in the paper's.
-    fn as_tl<T: PartialEq>(
+    /// tl's answer, if tl is asked, and what it is expected to be: what the model says in tl's way, a departure if that is not what it
+    /// says in the paper's.
+    fn beside_tl<T: Clone + PartialEq>(
         &mut self,
         paper: &T,
         departure: Departure,
         answer: impl Fn(&Self, Way) -> T,
-    ) -> Option<T> {
+        said: impl Fn(&TlPage) -> T,
+    ) -> Option<(T, T)> {
+        let said = said(self.tl.as_ref()?);
         if !self.departs {
-            return None;
+            return Some((said, paper.clone()));
         }
-        let as_tl = answer(self, TL);
-        if as_tl != *paper {
+        let expected = answer(self, TL);
+        if expected != *paper {
             self.found.depart(departure);
         }
-        Some(as_tl)
+        Some((said, expected))
     }
 
     fn attribute(&mut self, tag: usize, name: &[u8]) {
         let held = self.asked.attribute(tag, name, PAPER);
         let ours = self.ours.attribute(tag, name);
         let paper = self.expect(held);
-        let as_tl = self.as_tl(&held, Departure::RepeatedAttribute, |run, way| {
-            run.asked.attribute(tag, name, way)
-        });
-        let tl = self.tl.as_ref();
-        let tl = tl.map(|tl| (tl.attribute(tag, name), as_tl.unwrap_or(held)));
+        let tl = self.beside_tl(
+            &held,
+            Departure::RepeatedAttribute,
+            |run, way| run.asked.attribute(tag, name, way),
+            |tl| tl.attribute(tag, name),
+        );
         let ask = || Question::Attribute(tag, name.to_vec());
         check(&mut self.found, ask, ours, &paper, tl);
     }
 
     fn id(&mut self, manner: Manner, id: &[u8]) {
+        let numbers = Numbers::of(manner, self.random);
         let handle = self.asked.by_id(manner, id);
-        let ours = self.ours.by_id(manner, id);
+        let ours = self.ours.by_id(numbers, id);
         let paper = self.expect(handle);
-        let tl = self.tl.as_ref().map(|tl| (tl.by_id(manner, id), handle));
-        let ask = || Question::Id(manner, id.to_vec());
+        let tl = match manner {
+            Manner::Scan(View::Finished) => None,
+            _ => self.tl.as_ref().map(|tl| (tl.by_id(manner, id), handle)),
+        };
+        let ask = || Question::Id(numbers, id.to_vec());
         check(&mut self.found, ask, ours, &paper, tl);
+        self.count_unlike_all(manner, &handle, |asked, manner| asked.by_id(manner, id));
     }
 
     fn class(&mut self, manner: Manner, class: &[u8]) {
+        let numbers = Numbers::of(manner, self.random);
         let handles = self.asked.by_class(manner, class, PAPER);
         let room = self.room(handles.len());
-        let ours = self.ours.by_class(manner, class, room);
+        let ours = self.ours.by_class(numbers, class, room);
         let paper = self.expect(handles.clone());
-        let as_tl = self.as_tl(&handles, Departure::ClassNotUtf8, |run, way| {
-            run.asked.by_class(manner, class, way)
-        });
-        let expected = as_tl.unwrap_or_else(|| handles.clone());
-        let tl = self.tl.as_ref();
-        let tl = tl.map(|tl| (tl.by_class(manner, class), expected));
-        let ask = || Question::Class(manner, class.to_vec());
+        let tl = match manner {
+            Manner::Scan(View::Finished) => None,
+            _ => self.beside_tl(
+                &handles,
+                Departure::ClassNotUtf8,
+                |run, way| run.asked.by_class(manner, class, way),
+                |tl| tl.by_class(manner, class),
+            ),
+        };
+        let ask = || Question::Class(numbers, class.to_vec());
         check(&mut self.found, ask, ours, &paper, tl);
+        self.count_unlike_all(manner, &handles, |asked, manner| {
+            asked.by_class(manner, class, PAPER)
+        });
         if self.try_short(handles.len()) {
-            let short = self.ours.by_class(manner, class, handles.len() - 1);
+            let short = self.ours.by_class(numbers, class, handles.len() - 1);
             self.refused_as_7(ask, short);
         }
     }
 
-    fn query(&mut self, selector: &[u8]) {
+    fn query(&mut self, view: View, selector: &[u8]) {
         let all = (0, self.asked.rows.len());
+        let number = numbers::of_view(view, self.random);
         self.find(
-            || Question::Query(selector.to_vec()),
+            || Question::Query(number, selector.to_vec()),
             all,
+            view,
             selector,
-            |run, room| run.ours.query(selector, room),
+            |run, room| run.ours.query(number, selector, room),
             |tl| tl.query(selector),
         );
     }
 
-    fn query_below(&mut self, tag: usize, selector: &[u8]) {
-        let below = (tag + 1, self.asked.rows[tag].last - tag);
+    fn query_below(&mut self, tag: usize, view: View, selector: &[u8]) {
+        let row = &self.asked.rows[tag];
+        let below = (tag + 1, row.last - tag);
+        self.found.covered.below_unshown += (self.refusal.is_none() && !view.shows(row)) as u64;
+        let number = numbers::of_view(view, self.random);
         self.find(
-            || Question::Below(tag, selector.to_vec()),
+            || Question::Below(tag, number, selector.to_vec()),
             below,
+            view,
             selector,
-            |run, room| run.ours.query_below(tag, selector, room),
+            |run, room| run.ours.query_below(tag, number, selector, room),
             |tl| tl.query_below(tag, selector),
         );
     }
@@ -497,37 +556,52 @@ impl Run<'_, '_> {
         &mut self,
         ask: impl Fn() -> Question,
         (first, count): (usize, usize),
+        view: View,
         selector: &[u8],
         ours: impl Fn(&Self, usize) -> Answer<Vec<usize>>,
         tl: impl Fn(&TlPage) -> Option<Vec<usize>>,
     ) {
         let chain = model::read_selector(selector);
-        let finds = |run: &Self, way: Way| {
+        let all = |run: &Self, way: Way| {
             let find = |chain: &Vec<Piece>| run.asked.find(first, count, selector, chain, way);
             chain.as_ref().map(find)
         };
-        let found = finds(self, PAPER);
+        let in_all = all(self, PAPER);
+        let found = in_all.clone().map(|all| self.asked.shown(view, all));
         let paper = match &found {
             _ if self.refusal.is_some() => self.expect(Vec::new()),
             _ if selector.len() > SELECTOR_LIMIT => Err(Refusal::Number(5)),
             None => Err(Refusal::Number(6)),
             Some(handles) => Ok(handles.clone()),
         };
-        if paper == Err(Refusal::Number(5)) && found.is_some() {
-            self.found.depart(Departure::SelectorTooLong);
-        }
         let entries = found.as_ref().map_or(0, Vec::len);
         let room = self.room(entries);
         let answered = ours(self, room);
-        let departure = self.departure_of(&found, finds);
-        let as_tl = self.as_tl(&found, departure, finds);
-        let expected = as_tl.unwrap_or(found);
-        let said = self.tl.as_ref().map(|side| (tl(side), expected));
+        let said = match view {
+            View::All => self.finds_beside_tl(&found, &paper, all, tl),
+            View::Finished => None,
+        };
         check(&mut self.found, &ask, answered, &paper, said);
+        self.found.covered.unlike_all += (paper.is_ok() && found != in_all) as u64;
         if paper.is_ok() && self.try_short(entries) {
             let short = ours(self, entries - 1);
             self.refused_as_7(ask, short);
         }
+    }
+
+    /// What tl finds of all nodes, if it is asked, and what it is expected to find.
+    fn finds_beside_tl<T: Clone + PartialEq, U: PartialEq>(
+        &mut self,
+        found: &Option<T>,
+        paper: &Answer<U>,
+        finds: impl Fn(&Self, Way) -> Option<T>,
+        tl: impl Fn(&TlPage) -> Option<T>,
+    ) -> Option<(Option<T>, Option<T>)> {
+        if *paper == Err(Refusal::Number(5)) && found.is_some() {
+            self.found.depart(Departure::SelectorTooLong);
+        }
+        let departure = self.departure_of(found, &finds);
+        self.beside_tl(found, departure, finds, tl)
     }
 
     /// Which departure it would be: the repeated name, unless the class alone makes the finds differ.
@@ -559,7 +633,9 @@ impl Run<'_, '_> {
                 _ => {
                     let selector = self.random.pick(&SELECTORS);
                     let room = self.random.below(3);
-                    self.ours.query_below(handle, selector, room).map(|_| ())
+                    let view = numbers::any(self.random);
+                    let answered = self.ours.query_below(handle, view, selector, room);
+                    answered.map(|_| ())
                 }
             };
             check_ours(

@@ -1,13 +1,23 @@
 //! docs/DIFFERENCES.md: what tl and the library answer to each input of its table.
 use crate::ffi::LentProfile;
 use crate::model::{
-    max_nodes, name_place, set_limit, words_for, Held, Kind, Manner, ProfileBytes, PAGE_LIMIT,
-    SELECTOR_LIMIT, TL_BYTES, WHITE_AT,
+    max_nodes, name_place, set_limit, words_for, Held, Kind, Manner, ProfileBytes, View,
+    PAGE_LIMIT, SELECTOR_LIMIT, TL_BYTES, WHITE_AT,
 };
+use crate::numbers::Numbers;
 use crate::ours::{self, Answer, Ours, Refusal};
 use crate::tl_side::{as_str, read_selector, TlPage};
 use std::process::Command;
 use std::thread;
+
+/// The numbers of the views; and the scan over all nodes, which is tl's, with its numbers.
+const ALL: u32 = 0;
+const FINISHED: u32 = 1;
+const SCAN: Manner = Manner::Scan(View::All);
+const BY_NUMBERS: Numbers = Numbers {
+    manner: 0,
+    view: ALL,
+};
 
 /// A page that tl reads, and the library under a profile.
 struct Both<'p> {
@@ -111,8 +121,8 @@ fn a_table_that_is_lent() {
         page: b"",
         table: &[],
     };
-    assert_eq!(tl.by_id(Manner::Scan, b""), None);
-    assert_eq!(ours.by_id(Manner::Scan, b""), number(3));
+    assert_eq!(tl.by_id(SCAN, b""), None);
+    assert_eq!(ours.by_id(BY_NUMBERS, b""), number(3));
 }
 
 #[test]
@@ -134,7 +144,14 @@ fn a_selector_over_the_limit() {
 fn a_buffer_that_is_lent() {
     let both = Both::read(b"a");
     assert_eq!(both.tl.query(b"*"), Some(vec![0]));
-    assert_eq!(both.ours().query(b"*", 0), number(7));
+    assert_eq!(both.ours().query(ALL, b"*", 0), number(7));
+}
+
+#[test]
+fn a_view_of_finished_tags() {
+    let both = Both::read(b"<p>");
+    assert_eq!(both.tl.query(b"*"), Some(vec![0]));
+    assert_eq!(both.ours().query(FINISHED, b"*", 0), Ok(vec![]));
 }
 
 #[test]
@@ -157,8 +174,8 @@ fn a_class_that_is_not_utf8() {
         (b"<p class='fill \xff'>", b"fill"),
     ] {
         let both = Both::read(page);
-        assert_eq!(both.tl.by_class(Manner::Scan, class), []);
-        assert_eq!(both.ours().by_class(Manner::Scan, class, 1), Ok(vec![0]));
+        assert_eq!(both.tl.by_class(SCAN, class), []);
+        assert_eq!(both.ours().by_class(BY_NUMBERS, class, 1), Ok(vec![0]));
     }
 }
 
@@ -177,7 +194,7 @@ fn a_text_that_is_not_utf8() {
 #[test]
 fn a_page_that_is_not_utf8() {
     // no safe call of tl takes it
-    assert_eq!(Both::read(b"\xff").ours().query(b"*", 1), Ok(vec![0]));
+    assert_eq!(Both::read(b"\xff").ours().query(ALL, b"*", 1), Ok(vec![0]));
 }
 
 #[test]

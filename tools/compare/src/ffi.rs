@@ -131,6 +131,7 @@ pub fn get_element_by_id(
     page: &[u8],
     table: &[u32],
     manner: u32,
+    view: u32,
     id: &[u8],
 ) -> Said<2> {
     call(|answer| unsafe {
@@ -141,6 +142,7 @@ pub fn get_element_by_id(
             table.as_ptr(),
             table.len(),
             manner,
+            view,
             id.as_ptr(),
             id.len(),
             answer.as_mut_ptr(),
@@ -153,6 +155,7 @@ pub fn get_elements_by_class_name(
     page: &[u8],
     table: &[u32],
     manner: u32,
+    view: u32,
     name: &[u8],
     out: &mut [u32],
 ) -> Said<1> {
@@ -164,6 +167,7 @@ pub fn get_elements_by_class_name(
             table.as_ptr(),
             table.len(),
             manner,
+            view,
             name.as_ptr(),
             name.len(),
             out.as_mut_ptr(),
@@ -189,6 +193,7 @@ pub fn query_selector(
     profile: &tl_profile,
     page: &[u8],
     table: &[u32],
+    view: u32,
     selector: &[u8],
     out: &mut [u32],
 ) -> Said<1> {
@@ -199,6 +204,7 @@ pub fn query_selector(
             page.len(),
             table.as_ptr(),
             table.len(),
+            view,
             selector.as_ptr(),
             selector.len(),
             out.as_mut_ptr(),
@@ -213,6 +219,7 @@ pub fn query_selector_below(
     page: &[u8],
     table: &[u32],
     handle: usize,
+    view: u32,
     selector: &[u8],
     out: &mut [u32],
 ) -> Said<1> {
@@ -224,6 +231,7 @@ pub fn query_selector_below(
             table.as_ptr(),
             table.len(),
             handle,
+            view,
             selector.as_ptr(),
             selector.len(),
             out.as_mut_ptr(),

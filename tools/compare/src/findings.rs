@@ -1,5 +1,5 @@
 //! What a comparison found: how much was compared, which known departures showed, and the differences.
-use crate::model::Ended;
+use crate::model::{Ended, VIEWS};
 use crate::question::Question;
 
 /// The departures of docs/DIFFERENCES.md that a comparison can meet.
@@ -70,6 +70,12 @@ pub struct Covered {
     pub repeating_tags: u64,
     /// tags of pages that were read, by how they ended
     pub ended: [u64; ENDINGS.len()],
+    /// answers to lookups in the scan and to queries, by their view
+    pub in_view: [u64; VIEWS.len()],
+    /// finds of the finished view that are not those of the view of all nodes
+    pub unlike_all: u64,
+    /// queries in the finished view below a tag that it does not show
+    pub below_unshown: u64,
 }
 
 impl Covered {
@@ -82,6 +88,11 @@ impl Covered {
         for (sum, more) in self.ended.iter_mut().zip(more.ended) {
             *sum += more;
         }
+        for (sum, more) in self.in_view.iter_mut().zip(more.in_view) {
+            *sum += more;
+        }
+        self.unlike_all += more.unlike_all;
+        self.below_unshown += more.below_unshown;
     }
 }
 

@@ -1,5 +1,5 @@
 //! Compares the library with tl 0.7.8 and with a model of the paper's rules, on many pages and selectors; and under other profiles
-//! than tl's, which tl does not have, with the model alone.
+//! than tl's and in the finished view, which tl does not have, with the model alone.
 //!
 //! Ends with status 0 if there is no difference, 1 if there is one, 2 if it was started wrongly.
 
@@ -13,6 +13,7 @@ mod findings;
 mod guard;
 mod lists;
 mod model;
+mod numbers;
 mod ours;
 mod pages;
 mod plan;
@@ -38,8 +39,8 @@ const USAGE: &str = "usage: compare [--pages N] [--seed S] [--jobs J] [--record 
   --pages N   about how many pages to compare under tl's profile (2000000); half as many are compared under others
   --seed S    another seed gives other random inputs (1)
   --jobs J    threads (1); the inputs do not depend on it
-  --record F  compare nothing; write tl's answers to some pages, and the model's under other profiles, into the folder F, for the
-              program replay";
+  --record F  compare nothing; write tl's answers to some pages, and the model's under other profiles and in the finished view, into
+              the folder F, for the program replay";
 
 /// tl descends into nested tags by recursion; the deepest page within the limit needs some megabytes.
 const STACK: usize = 1 << 29;

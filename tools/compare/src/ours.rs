@@ -2,7 +2,8 @@
 //! mark before, and what the interface says of buffers is looked at each time: an accepted call fills the first entries and
 //! leaves the rest as it was, a refusal leaves zeros.
 use crate::ffi::{self, Said};
-use crate::model::{Held, Manner, Names, Piece, Texts, HEADER_WORDS, ROW_WORDS};
+use crate::model::{Held, Names, Piece, Texts, HEADER_WORDS, ROW_WORDS};
+use crate::numbers::Numbers;
 use tl_rattle::sys::tl_profile;
 
 /// Why there is no answer.
@@ -53,14 +54,6 @@ fn filled<T: Copy + PartialEq + From<u8>>(
 
 fn handles(words: Vec<u32>) -> Vec<usize> {
     words.into_iter().map(|word| word as usize).collect()
-}
-
-/// A manner's number. Any but 0 is the closed manner, so not always the same one is given.
-fn number(manner: Manner, page: &[u8]) -> u32 {
-    match manner {
-        Manner::Scan => 0,
-        Manner::Closed => [1, 2, u32::MAX][page.len() % 3],
-    }
 }
 
 /// Reads a page into a table of so many words; the words that the reading uses.
@@ -114,14 +107,9 @@ impl Ours<'_> {
         ))?)
     }
 
-    pub fn by_id(&self, manner: Manner, id: &[u8]) -> Answer<Option<usize>> {
-        let said = ffi::get_element_by_id(
-            self.profile,
-            self.page,
-            self.table,
-            number(manner, self.page),
-            id,
-        );
+    pub fn by_id(&self, numbers: Numbers, id: &[u8]) -> Answer<Option<usize>> {
+        let Numbers { manner, view } = numbers;
+        let said = ffi::get_element_by_id(self.profile, self.page, self.table, manner, view, id);
         match plain(said)? {
             [0, 0] => Ok(None),
             [1, handle] => Ok(Some(handle)),
@@ -129,33 +117,48 @@ impl Ours<'_> {
         }
     }
 
-    pub fn by_class(&self, manner: Manner, class: &[u8], room: usize) -> Answer<Vec<usize>> {
+    pub fn by_class(&self, numbers: Numbers, class: &[u8], room: usize) -> Answer<Vec<usize>> {
         let mut out = vec![MARK; room];
-        let manner = number(manner, self.page);
+        let Numbers { manner, view } = numbers;
         let said = ffi::get_elements_by_class_name(
             self.profile,
             self.page,
             self.table,
             manner,
+            view,
             class,
             &mut out,
         );
         filled(said, out, 1, MARK).map(handles)
     }
 
-    pub fn query(&self, selector: &[u8], room: usize) -> Answer<Vec<usize>> {
+    pub fn query(&self, view: u32, selector: &[u8], room: usize) -> Answer<Vec<usize>> {
         let mut out = vec![MARK; room];
-        let said = ffi::query_selector(self.profile, self.page, self.table, selector, &mut out);
+        let said = ffi::query_selector(
+            self.profile,
+            self.page,
+            self.table,
+            view,
+            selector,
+            &mut out,
+        );
         filled(said, out, 1, MARK).map(handles)
     }
 
-    pub fn query_below(&self, handle: usize, selector: &[u8], room: usize) -> Answer<Vec<usize>> {
+    pub fn query_below(
+        &self,
+        handle: usize,
+        view: u32,
+        selector: &[u8],
+        room: usize,
+    ) -> Answer<Vec<usize>> {
         let mut out = vec![MARK; room];
         let said = ffi::query_selector_below(
             self.profile,
             self.page,
             self.table,
             handle,
+            view,
             selector,
             &mut out,
         );

@@ -1,8 +1,9 @@
 //! The questions that are put to all sides.
-use crate::model::{Manner, Names};
+use crate::model::Names;
+use crate::numbers::Numbers;
 use std::fmt;
 
-/// A question, with the tag and the word that it is about.
+/// A question, with the tag and the word that it is about, and the numbers of a manner and a view.
 #[derive(Clone, Debug, PartialEq)]
 pub enum Question {
     Nodes,
@@ -13,11 +14,11 @@ pub enum Question {
     Range(usize),
     Text(usize),
     Attribute(usize, Vec<u8>),
-    Id(Manner, Vec<u8>),
-    Class(Manner, Vec<u8>),
+    Id(Numbers, Vec<u8>),
+    Class(Numbers, Vec<u8>),
     Selector,
-    Query(Vec<u8>),
-    Below(usize, Vec<u8>),
+    Query(u32, Vec<u8>),
+    Below(usize, u32, Vec<u8>),
     NoTag(usize),
     /// of a list of handles
     Attributes(Vec<u32>, Vec<u8>),
@@ -38,8 +39,8 @@ impl Question {
             Question::Attribute(_, word)
             | Question::Id(_, word)
             | Question::Class(_, word)
-            | Question::Query(word)
-            | Question::Below(_, word)
+            | Question::Query(_, word)
+            | Question::Below(_, _, word)
             | Question::Attributes(_, word) => Some(word),
             Question::AttributesForNames(_, names) => Some(&names.text),
             _ => None,
@@ -51,10 +52,10 @@ impl Question {
         let word = word.to_vec();
         match self {
             Question::Attribute(tag, _) => Question::Attribute(*tag, word),
-            Question::Id(manner, _) => Question::Id(*manner, word),
-            Question::Class(manner, _) => Question::Class(*manner, word),
-            Question::Query(_) => Question::Query(word),
-            Question::Below(tag, _) => Question::Below(*tag, word),
+            Question::Id(numbers, _) => Question::Id(*numbers, word),
+            Question::Class(numbers, _) => Question::Class(*numbers, word),
+            Question::Query(view, _) => Question::Query(*view, word),
+            Question::Below(tag, view, _) => Question::Below(*tag, *view, word),
             Question::Attributes(list, _) => Question::Attributes(list.clone(), word),
             Question::AttributesForNames(list, names) => {
                 let ends = names.ends.clone();
@@ -77,11 +78,15 @@ impl fmt::Display for Question {
             Question::Range(h) => write!(f, "range of {h}"),
             Question::Text(h) => write!(f, "inner text of {h}"),
             Question::Attribute(h, name) => write!(f, "attribute `{}` of {h}", text(name)),
-            Question::Id(manner, id) => write!(f, "id `{}`, {manner:?}", text(id)),
-            Question::Class(manner, class) => write!(f, "class `{}`, {manner:?}", text(class)),
+            Question::Id(numbers, id) => write!(f, "id `{}`, {numbers}", text(id)),
+            Question::Class(numbers, class) => write!(f, "class `{}`, {numbers}", text(class)),
             Question::Selector => write!(f, "selector"),
-            Question::Query(selector) => write!(f, "query `{}`", text(selector)),
-            Question::Below(h, selector) => write!(f, "query `{}` below {h}", text(selector)),
+            Question::Query(view, selector) => {
+                write!(f, "query `{}`, view {view}", text(selector))
+            }
+            Question::Below(h, view, selector) => {
+                write!(f, "query `{}` below {h}, view {view}", text(selector))
+            }
             Question::NoTag(h) => write!(f, "calls on {h}, which is no tag"),
             Question::Attributes(list, name) => {
                 write!(f, "attribute `{}` of the list {list:?}", text(name))

@@ -2,7 +2,8 @@
 //! crates/replay/src/main.rt has the form of both.
 //!
 //! Each answer to an accepted question about a page is tl's, of a list of handles tl's for one tag after the other. tl keeps no
-//! table, so the words of one are the model's, once tl's nodes and the model's are the same. Refusals, what a buffer holds after
+//! table, so the words of one are the model's, once tl's nodes and the model's are the same. Nor has it views: in the finished one
+//! the model leaves out of tl's finds those that are not finished, and says which tag has an id. Refusals, what a buffer holds after
 //! a call, and what is answered about a table that no reading made follow the paper. `replay` starts with tl's profile; the last
 //! questions are asked under others, and follow the paper too.
 mod lists;
@@ -11,7 +12,7 @@ mod profiles;
 use crate::asks::Asks;
 use crate::execution;
 use crate::model::{
-    self, tl_profile, words_for, Asked, Held, Kind, Manner, Piece, HEADER_WORDS, PAGE_LIMIT,
+    self, tl_profile, words_for, Asked, Held, Kind, Manner, Piece, View, HEADER_WORDS, PAGE_LIMIT,
     ROW_WORDS, SELECTOR_LIMIT,
 };
 use crate::pages;
@@ -163,9 +164,13 @@ fn read(page: &[u8], words: usize) -> Vec<usize> {
     said
 }
 
-fn manners() -> [(usize, Manner); 2] {
-    [(0, Manner::Scan), (1, Manner::Closed)]
-}
+/// The numbers of the views, and those of a manner with a view.
+const VIEWS: [(usize, View); 2] = [(0, View::All), (1, View::Finished)];
+const MANNERS: [([usize; 2], Manner); 3] = [
+    ([0, 0], Manner::Scan(View::All)),
+    ([0, 1], Manner::Scan(View::Finished)),
+    ([1, 0], Manner::Closed),
+];
 
 /// Whether tl's answers on this page are the paper's, and `replay` has room for it.
 fn is_plain(page: &[u8]) -> bool {
@@ -199,7 +204,12 @@ fn questions(to: &mut Recording, page: &[u8], random: &mut Random) {
         let said = [&[0], &held[..]].concat();
         to.record([3, *tag, 0, 0], name, "attribute", &said);
     }
-    lookups(to, &tl, &asks);
+    let sides = Sides {
+        asked: &asked,
+        tl: &tl,
+    };
+    sides.lookups(to, &asks, &MANNERS);
+    sides.queries(to, &asks, &VIEWS);
     lists::questions(to, &asked, &tl, &asks.lists, random);
 }
 
@@ -216,34 +226,67 @@ fn three_of(held: Held) -> [usize; 3] {
     }
 }
 
-fn lookups(to: &mut Recording, tl: &TlPage, asks: &Asks) {
-    for (number, manner) in manners() {
-        for id in asks.ids.iter().take(FEW) {
-            let found = tl.by_id(manner, id).map_or([0; 3], |handle| [0, 1, handle]);
-            to.record([5, number, 0, 0], id, "id", &found);
-        }
-        for class in asks.classes.iter().take(FEW) {
-            let found = Ok(tl.by_class(manner, class));
-            to.rooms(|room| [6, number, room, 0], class, "class", 1, &found);
-        }
-    }
-    for selector in &asks.selectors {
-        let found = found(selector, || tl.query(selector));
-        to.rooms(|room| [8, 0, room, 0], selector, "query", 1, &found);
-        to.selector(selector);
-    }
-    for (tag, selector) in asks.below.iter().take(FEW) {
-        let found = found(selector, || tl.query_below(*tag, selector));
-        to.rooms(|room| [9, *tag, room, 0], selector, "below", 1, &found);
-    }
+/// Who answers lookups and queries about a page: tl, and the model where not all is shown.
+struct Sides<'p> {
+    asked: &'p Asked<'p>,
+    tl: &'p TlPage<'p>,
 }
 
-/// What a query finds, or refusal 5 or 6.
-fn found(selector: &[u8], query: impl FnOnce() -> Option<Vec<usize>>) -> Answer {
-    if selector.len() > SELECTOR_LIMIT {
-        return Err(5);
+impl Sides<'_> {
+    fn by_id(&self, manner: Manner, id: &[u8]) -> Option<usize> {
+        match manner {
+            Manner::Scan(View::Finished) => self.asked.by_id(manner, id),
+            _ => self.tl.by_id(manner, id),
+        }
     }
-    query().ok_or(6)
+
+    fn by_class(&self, manner: Manner, class: &[u8]) -> Vec<usize> {
+        let found = self.tl.by_class(manner, class);
+        match manner {
+            Manner::Scan(view) => self.asked.shown(view, found),
+            Manner::Closed => found,
+        }
+    }
+
+    /// What a query finds, or refusal 5 or 6.
+    fn found(&self, view: View, selector: &[u8], query: Option<Vec<usize>>) -> Answer {
+        if selector.len() > SELECTOR_LIMIT {
+            return Err(5);
+        }
+        query.map(|found| self.asked.shown(view, found)).ok_or(6)
+    }
+
+    /// Asks in manners with these numbers.
+    fn lookups(&self, to: &mut Recording, asks: &Asks, manners: &[([usize; 2], Manner)]) {
+        for &([number, view], manner) in manners {
+            for id in asks.ids.iter().take(FEW) {
+                let found = self.by_id(manner, id);
+                let found = found.map_or([0; 3], |handle| [0, 1, handle]);
+                to.record([5, number, view, 0], id, "id", &found);
+            }
+            for class in asks.classes.iter().take(FEW) {
+                let found = Ok(self.by_class(manner, class));
+                to.rooms(|room| [6, number, room, view], class, "class", 1, &found);
+            }
+        }
+    }
+
+    /// Asks in views with these numbers.
+    fn queries(&self, to: &mut Recording, asks: &Asks, views: &[(usize, View)]) {
+        for selector in &asks.selectors {
+            for &(number, view) in views {
+                let found = self.found(view, selector, self.tl.query(selector));
+                to.rooms(|room| [8, number, room, 0], selector, "query", 1, &found);
+            }
+            to.selector(selector);
+        }
+        for (tag, selector) in asks.below.iter().take(FEW) {
+            for &(number, view) in views {
+                let found = self.found(view, selector, self.tl.query_below(*tag, selector));
+                to.rooms(|room| [9, *tag, room, number], selector, "below", 1, &found);
+            }
+        }
+    }
 }
 
 /// Every question to a page and table that are refused with this number.
@@ -257,10 +300,14 @@ fn one_refused(to: &mut Recording, number: usize) {
     to.record([2, 0, 0, 0], b"", "range", &[number, 0, 0, 0]);
     to.record([3, 0, 0, 0], b"k", "attribute", &[number, 0, 0, 0]);
     to.list(([4, 0, 3, 0], b"", "text"), 3, 1, &Err(number));
-    to.record([5, 0, 0, 0], b"k", "id", &[number, 0, 0]);
-    to.list(([6, 1, 2, 0], b"k", "class"), 2, 1, &Err(number));
-    to.list(([8, 0, 2, 0], b"a,", "query"), 2, 1, &Err(number));
-    to.list(([9, 0, 2, 0], b"a,", "below"), 2, 1, &Err(number));
+    for ([manner, view], _) in MANNERS {
+        to.record([5, manner, view, 0], b"k", "id", &[number, 0, 0]);
+        to.list(([6, manner, 2, view], b"k", "class"), 2, 1, &Err(number));
+    }
+    for (view, _) in VIEWS {
+        to.list(([8, view, 2, 0], b"a,", "query"), 2, 1, &Err(number));
+        to.list(([9, 0, 2, view], b"a,", "below"), 2, 1, &Err(number));
+    }
 }
 
 /// Zero length, the longest page and selector and one byte more, tables of few words.
@@ -275,12 +322,11 @@ fn limits(to: &mut Recording) {
     }
     for (length, refused) in [(PAGE_LIMIT, false), (PAGE_LIMIT + 1, true)] {
         to.page(b"a", length, one_row);
-        to.list(
-            ([8, 0, 1, 0], b"*", "query"),
-            1,
-            1,
-            &if refused { Err(1) } else { Ok(vec![0]) },
-        );
+        // the one row is a text
+        for (view, found) in [(0, vec![0]), (1, vec![])] {
+            let found = if refused { Err(1) } else { Ok(found) };
+            to.list(([8, view, 1, 0], b"*", "query"), 1, 1, &found);
+        }
         if refused {
             all_refused(to, 1);
         }
@@ -294,15 +340,17 @@ fn limits(to: &mut Recording) {
         } else {
             Ok(vec![])
         };
-        to.rooms(|room| [8, 0, room, 0], &selector, "query", 1, &none);
+        for (view, _) in VIEWS {
+            to.rooms(|room| [8, view, room, 0], &selector, "query", 1, &none);
+        }
     }
 }
 
 /// A sound table with one word changed at a time, to what makes it unsound, and changed back.
 fn damaged_tables(to: &mut Recording) {
     let page = b"<table id=a><tr class=b><td>x</td><br></tr><!--c--></table>y";
-    let rows = model::read(page, tl_profile()).rows.len();
-    let table = to.page(page, 1, words_for(rows));
+    let rows = model::read(page, tl_profile()).rows;
+    let table = to.page(page, 1, words_for(rows.len()));
     for i in 0..table.len() {
         for value in [0, table[i].wrapping_add(1), u32::MAX] {
             let mut damaged = table.clone();
@@ -314,15 +362,22 @@ fn damaged_tables(to: &mut Recording) {
         }
         to.word(i, table[i] as usize);
     }
-    all_still_asked(to, rows);
+    all_still_asked(to, &Asked::new(page, &rows, tl_profile()));
     to.word(0, 0x7fff_ffff);
     all_refused(to, 3);
 }
 
 /// The table as it was is sound again.
-fn all_still_asked(to: &mut Recording, rows: usize) {
-    let all = Ok((0..rows).collect());
-    to.rooms(|room| [8, 0, room, 0], b"*", "query", 1, &all);
+fn all_still_asked(to: &mut Recording, asked: &Asked) {
+    for (number, view) in VIEWS {
+        let all = Ok(shown(view, asked));
+        to.rooms(|room| [8, number, room, 0], b"*", "query", 1, &all);
+    }
+}
+
+/// All rows that a view shows.
+fn shown(view: View, asked: &Asked) -> Vec<usize> {
+    asked.shown(view, (0..asked.rows.len()).collect())
 }
 
 /// Tables whose tags end in another order than a reading's, or all at one place: the answers in the closed manner are the
@@ -360,7 +415,7 @@ fn ends_in_other_orders(to: &mut Recording) {
 }
 
 /// A table with word 8 of one row changed at a time, to every number that means something and one more, and changed back:
-/// sound or not as the model says. Then the width of a row, to a word less and a word more.
+/// sound or not as the model says, and with other finished tags. Then the width of a row, to a word less and a word more.
 fn ended_in_other_ways(to: &mut Recording) {
     let page = b"<p>x<br><b>y</b><!--c--><i><q></q";
     let rows = model::read(page, tl_profile()).rows.len();
@@ -372,13 +427,63 @@ fn ended_in_other_ways(to: &mut Recording) {
         for value in values.chain([before]) {
             table[word] = value;
             to.word(word, value as usize);
-            let sound = model::reading_of(page.len(), &table).is_some();
-            let said = if sound {
+            let reading = model::reading_of(page.len(), &table);
+            let said = if reading.is_some() {
                 [0, rows - 1, 1, rows - 1]
             } else {
                 [3, 0, 0, 0]
             };
             to.record([2, 0, 0, 0], b"", "range", &said);
+            let finished = reading.ok_or(3).map(|reading| {
+                let asked = Asked::new(page, &reading.rows, tl_profile());
+                shown(View::Finished, &asked)
+            });
+            to.list(([8, 1, rows, 0], b"*", "query"), rows, 1, &finished);
+        }
+    }
+}
+
+/// Rows of every kind and ending, with numbers above 1 for the finished view, and with any view in the closed manner; and queries
+/// below a tag that is open, one that is finished, and a node that is no tag.
+fn views_by_other_numbers(to: &mut Recording) {
+    const ABOVE_1: [usize; 4] = [2, 256, 65_536, u32::MAX as usize];
+    let page = b"<p id=i><b class=c id=a>x<br class=c id=v><i class='c d' id=a>y</i><!--z--><u class=c></u";
+    let rows = model::read(page, tl_profile()).rows;
+    let words = |words: &[&[u8]]| words.iter().map(|word| word.to_vec()).collect();
+    let asks = Asks {
+        ids: words(&[b"i", b"a", b"v"]),
+        classes: words(&[b"c", b"d"]),
+        selectors: words(&[b"*", b".c"]),
+        below: [1, 4].map(|tag| (tag, b"*".to_vec())).into(),
+        ..Asks::default()
+    };
+    let sides = Sides {
+        asked: &Asked::new(page, &rows, tl_profile()),
+        tl: &TlPage::read(tl_side::as_str(page)),
+    };
+    to.page(page, 1, words_for(rows.len()));
+    sides.lookups(to, &asks, &MANNERS);
+    sides.queries(to, &asks, &VIEWS);
+    for number in ABOVE_1 {
+        let manners = [
+            ([0, number], Manner::Scan(View::Finished)),
+            ([1, number], Manner::Closed),
+            ([number, 1], Manner::Closed),
+        ];
+        sides.lookups(to, &asks, &manners);
+        sides.queries(to, &asks, &[(number, View::Finished)]);
+    }
+    below_no_tag(to, &rows);
+}
+
+/// Below a text, and a handle that the page does not have, whatever the selector.
+fn below_no_tag(to: &mut Recording, rows: &[model::Row]) {
+    let text = rows.iter().position(|row| row.kind == Kind::Text);
+    for handle in [text.expect("the page has a text"), rows.len()] {
+        for selector in [&b"*"[..], b"a,", &[b'a'; SELECTOR_LIMIT + 1]] {
+            for (view, _) in VIEWS {
+                to.list(([9, handle, 2, view], selector, "below"), 2, 1, &Err(4));
+            }
         }
     }
 }
@@ -427,6 +532,7 @@ pub fn record(folder: &Path, seed: u64) -> io::Result<()> {
     random_pages(&mut to, seed);
     ends_in_other_orders(&mut to);
     ended_in_other_ways(&mut to);
+    views_by_other_numbers(&mut to);
     profiles::questions_under_others(&mut to);
     writeln!(to.printed, "records {}", to.records).expect("a string takes it");
     fs::write(folder.join("stdin"), &to.asked)?;

@@ -185,6 +185,17 @@ impl Covered {
         for (count, (_, name)) in self.ended.iter().zip(ENDINGS) {
             println!("{count:>12} {name}");
         }
+        let [all, finished] = self.in_view;
+        println!("{all:>12} of the answers are in the view of all nodes");
+        println!("{finished:>12} of the answers are in that of the finished tags");
+        println!(
+            "{:>12} of these are not what the view of all nodes finds",
+            self.unlike_all
+        );
+        println!(
+            "{:>12} queries in it are below a tag that it does not show",
+            self.below_unshown
+        );
     }
 }
 

@@ -124,9 +124,10 @@ impl<'p> TlPage<'p> {
         Texts::of(tags.iter().map(text))
     }
 
+    /// tl has no views: whatever the view of a scan, it goes over all nodes.
     fn manner(&self, manner: Manner) -> &VDom<'p> {
         match manner {
-            Manner::Scan => &self.plain,
+            Manner::Scan(_) => &self.plain,
             Manner::Closed => &self.tracked,
         }
     }

@@ -1,13 +1,17 @@
 //! The calls with one kind of answer altered on purpose.
 
+mod view;
+
 use std::cell::Cell;
 
 use tl_rattle::calls::{self, HeldAt};
-use tl_rattle::{Profile, Refusal, MAX_PAGE};
+use tl_rattle::{Profile, Refusal, View, MAX_PAGE};
 
 use crate::profiles::limited;
 use crate::reader::{Asked, Compiled, Reader};
 use crate::rows::Rows;
+use view::Looked;
+pub use view::{Asking, How, IN_VIEW, IN_WHOLE};
 
 /// What is altered.
 #[derive(Clone, Copy, Debug, PartialEq, Eq)]
@@ -39,6 +43,13 @@ pub enum Alteration {
     TextLengthened,
     TextShortened,
     ClosedTextShortened,
+    FinishedEndMoved,
+    FinishedLastMoved,
+    FinishedOtherwise,
+    CutShortMadeClosed,
+    OpenMadeNeverOpened,
+    /// in the finished view
+    InView(Asking, How),
     ReadByTls,
     AttributeByTls,
     QueryByTls,
@@ -51,7 +62,14 @@ pub const BY_TLS: [Alteration; 3] = [
     Alteration::QueryByTls,
 ];
 
-pub const ALTERATIONS: [Alteration; 27] = [
+/// Of a finished row of the whole page.
+pub const OF_FINISHED: [Alteration; 3] = [
+    Alteration::FinishedEndMoved,
+    Alteration::FinishedLastMoved,
+    Alteration::FinishedOtherwise,
+];
+
+pub const ALTERATIONS: [Alteration; 29] = [
     Alteration::ReadingRefused,
     Alteration::ReadOneByteLess,
     Alteration::LastTagDropped,
@@ -79,6 +97,8 @@ pub const ALTERATIONS: [Alteration; 27] = [
     Alteration::TextLengthened,
     Alteration::TextShortened,
     Alteration::ClosedTextShortened,
+    Alteration::CutShortMadeClosed,
+    Alteration::OpenMadeNeverOpened,
 ];
 
 /// The calls with some answers altered.
@@ -200,23 +220,47 @@ impl Altered {
             finds.iter().copied().filter(is_tag).collect::<Vec<_>>()
         };
         let before = tags(&out[..many]);
-        let answer = Compiled.query(asked.by(&Profile::TL), selector, out);
+        let answer = Compiled.query(asked.by(&Profile::TL), View::All, selector, out);
         if answer.map(|many| tags(&out[..many])) != Ok(before) {
             self.take();
         }
         answer
     }
 
+    /// Alters an answer in the finished view, where `all` asks the same in the view of all.
+    fn in_view(
+        &self,
+        looked: Looked<'_>,
+        out: &mut [u32],
+        all: impl FnOnce(&mut [u32]) -> Result<usize, Refusal>,
+    ) -> Result<usize, Refusal> {
+        let how = match self.alteration {
+            Alteration::InView(asking, how) if asking == looked.asking => how,
+            _ => return looked.answer,
+        };
+        let mut room = vec![0; out.len()];
+        let found = || {
+            let many = all(&mut room).unwrap_or(0);
+            room.truncate(many);
+            room
+        };
+        let altered = how.alter(looked, out, found);
+        if altered.is_some() {
+            self.take();
+        }
+        altered.unwrap_or(looked.answer)
+    }
+
     /// Alters the last row that can be.
     fn alter_row(&self, table: &mut [u32]) -> Option<()> {
         let rows = Rows(table);
-        let last_with = |with: &dyn Fn(u32) -> bool| (0..rows.count()).rev().find(|h| with(*h));
-        let last_tag_with = |with: &dyn Fn(u32) -> bool| last_with(&|h| rows.is_tag(h) && with(h));
+        let last_tag_with =
+            |with: &dyn Fn(u32) -> bool| rows.last_with(|h| rows.is_tag(h) && with(h));
         match self.alteration {
             Alteration::LastTagDropped => drop_tag(table, last_tag_with(&|_| true)?),
             Alteration::TextMadeATag => {
                 let long = |h| !rows.is_tag(h) && rows.start(h) + 2 < rows.end(h);
-                make_tag(table, last_with(&long)?);
+                make_tag(table, rows.last_with(long)?);
             }
             Alteration::StartMoved => table[Rows::at(last_tag_with(&|_| true)?) + 1] += 1,
             Alteration::NameShortened => {
@@ -231,6 +275,32 @@ impl Altered {
                 table[Rows::at(last_tag_with(&|h| rows.last(h) > h)?) + 7] -= 1;
             }
             Alteration::LastTooHigh => table[Rows::at(last_tag_with(&|_| true)?) + 7] += 1,
+            _ => return self.alter_finished(table),
+        }
+        self.take();
+        Some(())
+    }
+
+    /// Alters the last finished row, or makes the last one that can be a finished one.
+    fn alter_finished(&self, table: &mut [u32]) -> Option<()> {
+        let rows = Rows(table);
+        let last_finished = || rows.last_with(|h| rows.is_finished(h));
+        match self.alteration {
+            Alteration::FinishedEndMoved => table[Rows::at(last_finished()?) + 2] -= 1,
+            Alteration::FinishedLastMoved => table[Rows::at(last_finished()?) + 7] += 1,
+            Alteration::FinishedOtherwise => {
+                let ended = Rows::at(last_finished()?) + 8;
+                // 1 for 3, and 3 for 1
+                table[ended] = 4 - table[ended];
+            }
+            Alteration::CutShortMadeClosed => {
+                let cut_short = |h| rows.is_tag(h) && rows.ended(h) == 2;
+                table[Rows::at(rows.last_with(cut_short)?) + 8] = 1;
+            }
+            Alteration::OpenMadeNeverOpened => {
+                let empty = |h| rows.is_tag(h) && rows.ended(h) == 0 && rows.last(h) == h;
+                table[Rows::at(rows.last_with(empty)?) + 8] = 3;
+            }
             _ => return None,
         }
         self.take();
@@ -290,8 +360,33 @@ impl Reader for Altered {
         altered
     }
 
-    fn query(&self, asked: Asked<'_>, selector: &[u8], out: &mut [u32]) -> Result<usize, Refusal> {
-        let answer = Compiled.query(asked, selector, out);
+    fn class(
+        &self,
+        asked: Asked<'_>,
+        view: View,
+        class: &[u8],
+        out: &mut [u32],
+    ) -> Result<usize, Refusal> {
+        let answer = Compiled.class(asked, view, class, out);
+        if view == View::Finished {
+            let all = |all: &mut [u32]| Compiled.class(asked, View::All, class, all);
+            return self.in_view(Looked::new(Asking::Class, asked, None, answer), out, all);
+        }
+        answer
+    }
+
+    fn query(
+        &self,
+        asked: Asked<'_>,
+        view: View,
+        selector: &[u8],
+        out: &mut [u32],
+    ) -> Result<usize, Refusal> {
+        let answer = Compiled.query(asked, view, selector, out);
+        if view == View::Finished {
+            let all = |all: &mut [u32]| Compiled.query(asked, View::All, selector, all);
+            return self.in_view(Looked::new(Asking::Query, asked, None, answer), out, all);
+        }
         let altered = match (self.alteration, answer) {
             (Alteration::QueryRefused, Ok(_)) => Err(Refusal::SelectorNotRead),
             (Alteration::OtherRefusal, Err(Refusal::SelectorTooLong)) => {
@@ -317,10 +412,16 @@ impl Reader for Altered {
         &self,
         asked: Asked<'_>,
         handle: u32,
+        view: View,
         selector: &[u8],
         out: &mut [u32],
     ) -> Result<usize, Refusal> {
-        let answer = Compiled.below(asked, handle, selector, out);
+        let answer = Compiled.below(asked, handle, view, selector, out);
+        if view == View::Finished {
+            let looked = Looked::new(Asking::Below, asked, Some(handle), answer);
+            let all = |all: &mut [u32]| Compiled.below(asked, handle, View::All, selector, all);
+            return self.in_view(looked, out, all);
+        }
         match (self.alteration, answer) {
             (Alteration::BelowRefused, Ok(_)) => {
                 self.take();

@@ -9,12 +9,14 @@ use crate::{pages, profiles};
 /// Every name and the text of every tag, and many selectors; of a long page fewer.
 pub const SHORT: Extent = Extent {
     names: usize::MAX,
+    classes: 4,
     selectors: 26,
     tags: usize::MAX,
     below: 4,
 };
 const LONG: Extent = Extent {
     names: 40,
+    classes: 4,
     selectors: 8,
     tags: 12,
     below: 4,

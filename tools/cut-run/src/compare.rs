@@ -1,16 +1,20 @@
-//! What the cut theorem compares (`CutOff` in crates/cut/specs/Cut.antt) and the one on a tag's text (`TextPrefix` in
-//! crates/cut/specs/Text.antt), asked of the compiled calls.
+//! What the cut theorem compares (`CutOff` in crates/cut/specs/Cut.antt), the one on a tag's text (`TextPrefix` in
+//! crates/cut/specs/Text.antt) and those on the finished tags (crates/cut/specs/View.antt), asked of the compiled calls.
+
+mod view;
 
 use std::fmt;
 
 use common::Random;
 use tl_rattle::calls::HeldAt;
-use tl_rattle::{max_nodes, words_for, Profile, Refusal, HEADER_WORDS, ROW_WORDS};
+use tl_rattle::{max_nodes, words_for, Profile, Refusal, View, HEADER_WORDS, ROW_WORDS};
 
 use crate::ended::EndedCounts;
+use crate::lookup::{alike, lent, Answer, Lookup};
 use crate::questions::Questions;
 use crate::reader::{Asked, Reader};
 use crate::rows::Rows;
+use crate::view_counts::ViewCounts;
 
 /// The parts of the statement.
 #[derive(Clone, Copy, Debug, PartialEq, Eq)]
@@ -40,6 +44,19 @@ pub enum Clause {
     TextBegins,
     /// and the same, if nothing descends from the whole page's tag, or the last that does ends at the cut or before it
     TextSame,
+    /// of one page: the finished view finds what the view of all does, with the rows left out that are not finished
+    ShownClass,
+    ShownQuery,
+    ShownBelow,
+    /// a finished tag of the beginning is one of the whole page, with the same nine words
+    StaysRow,
+    /// and the same text
+    StaysText,
+    /// the finished view finds in the beginning what it does in the whole page, with the rows left out that are not
+    /// finished in the beginning
+    StaysClass,
+    StaysQuery,
+    StaysBelow,
 }
 
 /// Where the two pages' answers differ.
@@ -93,14 +110,14 @@ pub struct Counts {
     /// shorter than in the whole page
     pub texts_begun: usize,
     pub differences: usize,
+    /// the finished view and its tags
+    pub view: ViewCounts,
     /// no part of the statement
     pub ended: EndedCounts,
 }
 
 /// The differences that are kept; all are counted.
 const KEPT: usize = 50;
-
-type Answer = Result<Vec<u32>, Refusal>;
 
 /// A tag's text: as the call gives it, and by the table.
 struct Text {
@@ -131,19 +148,23 @@ pub struct Whole<'p, R> {
     questions: &'p Questions,
     reader: &'p R,
     held: Vec<Option<Result<HeldAt, Refusal>>>,
-    found: Vec<Answer>,
-    below: Vec<Option<Answer>>,
+    // in each view
+    found: [Vec<Option<Answer>>; 2],
+    // of the selectors, those that tell something of the finished view, and whether each is asked in it at a cut
+    telling: Vec<usize>,
+    in_view: Vec<bool>,
     texts: Vec<Option<Text>>,
-    // lent to the beginning's calls
+    // lent to the beginning's calls, and to those in the finished view
     lent: Vec<u32>,
     out: Vec<u32>,
+    other: Vec<u32>,
     pub differences: Vec<Difference>,
     /// where word 8 differs as no cut can make it
     pub contradictions: Vec<String>,
 }
 
 impl<'p, R: Reader> Whole<'p, R> {
-    /// Reads the page, and asks it each selector.
+    /// Reads the page, and compares what it answers in either view.
     pub fn new(
         profile: &'p Profile,
         page: &'p [u8],
@@ -159,18 +180,21 @@ impl<'p, R: Reader> Whole<'p, R> {
             questions,
             reader,
             held: Vec::new(),
-            found: Vec::new(),
-            below: Vec::new(),
+            found: [Vec::new(), Vec::new()],
+            telling: Vec::new(),
+            in_view: Vec::new(),
             texts: Vec::new(),
             lent: vec![0; words_for(room)],
             out: vec![0; room],
+            other: vec![0; room],
             differences: Vec::new(),
             contradictions: Vec::new(),
         };
         counts.pages += 1;
         counts.bytes += page.len();
         whole.read(counts);
-        whole.query();
+        whole.telling = whole.telling();
+        whole.shown_whole(counts);
         let table = whole.table.clone();
         whole.descendants(counts, Clause::DescendantsWhole, page.len(), &table);
         whole
@@ -190,20 +214,7 @@ impl<'p, R: Reader> Whole<'p, R> {
         }
         let count = Rows(&self.table).count() as usize;
         self.held = vec![None; count * self.questions.names.len()];
-        self.below = vec![None; count * self.questions.selectors.len()];
         self.texts.resize_with(count, || None);
-    }
-
-    /// Asks each selector over the page.
-    fn query(&mut self) {
-        for selector in &self.questions.selectors {
-            let mut out = vec![0; Rows(&self.table).count() as usize];
-            let many = self.reader.query(self.asked(), selector, &mut out);
-            self.found.push(many.map(|many| {
-                out.truncate(many);
-                out
-            }));
-        }
     }
 
     /// Whether so many bytes are more than the profile's limit.
@@ -272,21 +283,32 @@ impl<'p, R: Reader> Whole<'p, R> {
         }
     }
 
-    /// What the questions' selector of this number finds below the whole page's tag: where in `below` it is kept.
-    fn found_below(&mut self, handle: u32, selector: usize) -> Option<usize> {
-        let selectors = &self.questions.selectors;
-        let at = handle as usize * selectors.len() + selector;
-        if self.below.get(at)?.is_none() {
-            let mut out = vec![0; Rows(&self.table).count() as usize];
-            let many = self
-                .reader
-                .below(self.asked(), handle, &selectors[selector], &mut out);
-            self.below[at] = Some(many.map(|many| {
-                out.truncate(many);
-                out
-            }));
+    /// What a lookup finds in the whole page.
+    fn found(&mut self, view: View, lookup: Lookup) -> &Answer {
+        let (questions, at) = (self.questions, self.place(lookup));
+        if self.found[view as usize]
+            .get(at)
+            .is_none_or(Option::is_none)
+        {
+            let answer = lookup.answer(questions, self.reader, self.asked(), view);
+            let found = &mut self.found[view as usize];
+            found.resize(found.len().max(at + 1), None);
+            found[at] = Some(answer);
         }
-        Some(at)
+        self.found[view as usize][at]
+            .as_ref()
+            .expect("it was asked")
+    }
+
+    /// Where the finds of a lookup are kept.
+    fn place(&self, lookup: Lookup) -> usize {
+        let classes = self.questions.classes.len();
+        let selectors = self.questions.selectors.len();
+        match lookup {
+            Lookup::Class(number) => number,
+            Lookup::Query(number) => classes + number,
+            Lookup::Below(handle, number) => classes + (handle as usize + 1) * selectors + number,
+        }
     }
 
     /// The text of the whole page's tag: where in `texts` it is kept.
@@ -333,13 +355,16 @@ impl<'p, R: Reader> Whole<'p, R> {
         random: &mut Random,
         counts: &mut Counts,
     ) {
+        self.in_view = self.turn(asked.page.len());
         let tags = self.tags(counts, asked);
         self.ended(counts, asked, &tags);
+        self.rows_stay(counts, asked, &tags);
         self.descendants(counts, Clause::Descendants, asked.page.len(), asked.table);
         let some = some_of(&tags, self.questions.tags, random);
         self.attributes(counts, asked, reader, &some);
         self.texts(counts, asked, reader, &some);
         self.queries(counts, asked, reader);
+        self.finished_besides(counts, asked, reader);
         let some = some_of(&tags, self.questions.below, random);
         self.queries_below(counts, asked, reader, &some);
     }
@@ -492,7 +517,9 @@ impl<'p, R: Reader> Whole<'p, R> {
                 (Ok(one), Ok(other)) if other.starts_with(one) => counts.texts_begun += 1,
                 _ => {}
             }
-            for (clause, what) in unlike(&text, whole, same) {
+            let finished = Rows(asked.table).is_finished(h);
+            counts.view.text(finished);
+            for (clause, what) in unlike(&text, whole, same, finished) {
                 self.differ(counts, clause, n, Some(h), || what);
             }
         }
@@ -500,26 +527,17 @@ impl<'p, R: Reader> Whole<'p, R> {
 
     /// Part 3: refused alike, or the same finds among the beginning's tags, over the page.
     fn queries<B: Reader>(&mut self, counts: &mut Counts, asked: Asked<'_>, reader: &B) {
-        let n = asked.page.len();
-        let questions = self.questions;
-        let mut out = std::mem::take(&mut self.out);
-        for (number, selector) in questions.selectors.iter().enumerate() {
-            let many = reader.query(asked, selector, &mut out);
+        for number in 0..self.questions.selectors.len() {
+            let lookup = Lookup::Query(number);
+            let (finds, refusal) = self.query(counts, Clause::Query, asked, reader, lookup);
             counts.queries += 1;
-            let said = alike(asked, many, &out, &self.found[number]);
-            match said {
-                Ok(finds) => counts.finds += finds,
-                Err(what) => self.differ(counts, Clause::Query, n, None, || {
-                    format!("{}: {what}", selector.escape_ascii())
-                }),
-            }
-            match many {
-                Err(Refusal::SelectorTooLong) => counts.too_long += 1,
-                Err(Refusal::SelectorNotRead) => counts.unread += 1,
+            counts.finds += finds;
+            match refusal {
+                Some(Refusal::SelectorTooLong) => counts.too_long += 1,
+                Some(Refusal::SelectorNotRead) => counts.unread += 1,
                 _ => {}
             }
         }
-        self.out = out;
     }
 
     /// And below some of the beginning's tags.
@@ -530,29 +548,57 @@ impl<'p, R: Reader> Whole<'p, R> {
         reader: &B,
         tags: &[u32],
     ) {
-        let n = asked.page.len();
-        let questions = self.questions;
-        let mut out = std::mem::take(&mut self.out);
         for &h in tags {
-            for (number, selector) in questions.selectors.iter().enumerate() {
-                let many = reader.below(asked, h, selector, &mut out);
+            for number in 0..self.questions.selectors.len() {
+                let lookup = Lookup::Below(h, number);
+                let (finds, _) = self.query(counts, Clause::Below, asked, reader, lookup);
                 counts.queries_below += 1;
-                let said = match self.found_below(h, number) {
-                    Some(at) => {
-                        let whole = self.below[at].as_ref().expect("it was asked");
-                        alike(asked, many, &out, whole)
-                    }
-                    None => Err("the whole page has no such row".to_owned()),
-                };
-                match said {
-                    Ok(finds) => counts.finds_below += finds,
-                    Err(what) => self.differ(counts, Clause::Below, n, Some(h), || {
-                        format!("{}: {what}", selector.escape_ascii())
-                    }),
-                }
+                counts.finds_below += finds;
             }
         }
+    }
+
+    /// A query in the view of all, and where it is asked there, in the finished view: how many finds are the same in the
+    /// view of all, and the refusal.
+    fn query<B: Reader>(
+        &mut self,
+        counts: &mut Counts,
+        clause: Clause,
+        asked: Asked<'_>,
+        reader: &B,
+        lookup: Lookup,
+    ) -> (usize, Option<Refusal>) {
+        let n = asked.page.len();
+        let mut out = std::mem::take(&mut self.out);
+        let all = lookup.ask(self.questions, reader, asked, View::All, &mut out);
+        let is_tag = |handle| Rows(asked.table).is_tag(handle);
+        let whole = lent(self.found(View::All, lookup));
+        let said = alike((all, is_tag), (whole, is_tag));
+        let finds = self.said(counts, clause, n, lookup, said);
+        if self.in_view[lookup.number()] {
+            self.finished(counts, asked, reader, lookup, all);
+        }
+        let refusal = all.err();
         self.out = out;
+        (finds, refusal)
+    }
+
+    /// How many finds two answers share; or reports in what they differ.
+    fn said(
+        &mut self,
+        counts: &mut Counts,
+        clause: Clause,
+        cut: usize,
+        lookup: Lookup,
+        said: Result<usize, String>,
+    ) -> usize {
+        let text = lookup.text(self.questions);
+        said.unwrap_or_else(|what| {
+            self.differ(counts, clause, cut, lookup.handle(), || {
+                format!("{}: {what}", text.escape_ascii())
+            });
+            0
+        })
     }
 
     /// Part 4: a tag's descendants, by going from parent to parent, are the handles after its own up to its last.
@@ -606,35 +652,9 @@ fn some_of(tags: &[u32], many: usize, random: &mut Random) -> Vec<u32> {
     latest.chain(others).collect()
 }
 
-/// Two answers of a query: refused alike, or with the same finds among the beginning's tags, and then how many these are.
-fn alike(
-    asked: Asked<'_>,
-    many: Result<usize, Refusal>,
-    out: &[u32],
-    whole: &Answer,
-) -> Result<usize, String> {
-    let rows = Rows(asked.table);
-    match (many, whole) {
-        (Ok(many), Ok(found)) => {
-            let only = |handle: &&u32| rows.is_tag(**handle);
-            if out[..many]
-                .iter()
-                .filter(only)
-                .eq(found.iter().filter(only))
-            {
-                Ok(out[..many].iter().filter(only).count())
-            } else {
-                Err(format!("finds {:?} and {found:?}", &out[..many]))
-            }
-        }
-        // with the room that is lent, no answer is longer than its buffer
-        (Err(one), Err(other)) if one == *other && one != Refusal::BufferTooShort => Ok(0),
-        (one, other) => Err(format!("answers {one:?} and {other:?}")),
-    }
-}
-
-/// What is wrong with a tag's text in the beginning and in the whole page, where they must be the `same` or need not be.
-fn unlike(text: &Text, whole: &Text, same: bool) -> Vec<(Clause, String)> {
+/// What is wrong with a tag's text in the beginning and in the whole page, where they must be the `same` or need not be, and must be
+/// if the tag is `finished` in the beginning.
+fn unlike(text: &Text, whole: &Text, same: bool, finished: bool) -> Vec<(Clause, String)> {
     let mut wrong = Vec::new();
     for (page, text) in [("beginning", text), ("whole page", whole)] {
         let said = |text: &[u8]| text.escape_ascii().to_string();
@@ -655,6 +675,9 @@ fn unlike(text: &Text, whole: &Text, same: bool) -> Vec<(Clause, String)> {
         if same && one != other {
             wrong.push((Clause::TextSame, what()));
         }
+        if finished && one != other {
+            wrong.push((Clause::StaysText, what()));
+        }
     }
     wrong
 }
@@ -668,9 +691,11 @@ mod tests {
 
     static ONLY_TEXTS: Questions = Questions {
         names: Vec::new(),
+        classes: Vec::new(),
         selectors: Vec::new(),
         tags: usize::MAX,
         below: 0,
+        in_view: false,
     };
 
     fn at_every_cut(page: &[u8]) -> Counts {
@@ -737,7 +762,13 @@ mod tests {
                 0..=2 => &[],
                 3 => &[Clause::Text],
                 4..=10 => &[Clause::Text, Clause::TextBegins],
-                _ => &[Clause::Text, Clause::TextBegins, Clause::TextSame],
+                11..=14 => &[Clause::Text, Clause::TextBegins, Clause::TextSame],
+                _ => &[
+                    Clause::Text,
+                    Clause::TextBegins,
+                    Clause::TextSame,
+                    Clause::StaysText,
+                ],
             };
             assert_eq!(clauses, expected, "cut at {n}");
         }

@@ -1,6 +1,6 @@
 //! How a tag ended, word 8 of its row, in a whole page and in its beginning. What closes a tag may lie after the cut, or be cut
-//! itself, so no clause of the theorems speaks of this word. It is counted here, apart from the clauses, and held to what a
-//! cut can do.
+//! itself, so no clause speaks of this word but where the tag is finished in the beginning. It is counted here, apart from the
+//! clauses, and held to what a cut can do.
 
 use std::fmt;
 

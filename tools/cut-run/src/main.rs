@@ -1,10 +1,12 @@
-//! Runs the compiled calls over random pages at every cut, and compares what the cut theorem and the one on a tag's text
-//! compare: the page's first n bytes with the whole page, for each n from 0 to its length, both by the same profile.
+//! Runs the compiled calls over random pages at every cut, and compares what the cut theorem, the one on a tag's text and those on
+//! the finished tags compare: the page's first n bytes with the whole page, for each n from 0 to its length, both by the same
+//! profile; and of each page what is found in either view.
 
 mod altered;
 mod case;
 mod compare;
 mod ended;
+mod lookup;
 mod pages;
 mod profiles;
 mod questions;
@@ -12,6 +14,7 @@ mod reader;
 mod rows;
 mod run;
 mod selftest;
+mod view_counts;
 
 use std::process::ExitCode;
 
@@ -24,12 +27,12 @@ so many pages by tl's profile, and as many, each by a random one
   --seed N       what decides the pages and what is asked (default 1)
   --from N       the number of the first page (default 0)
   --show N       differences printed (default 5)
-  --self-test    alters answers on purpose; each cut at which that happened must be reported, but
-                 for word 8 of a row, of which no clause speaks
+  --self-test    alters answers on purpose; each cut at which that happened must be reported, and
+                 word 8 of a row only where a clause on finished tags speaks of it
   --help         this text
 
 Exit status: 0 nothing differs; 1 something differs (with --self-test: something altered was not
-reported, or word 8 was); 2 bad usage.";
+reported, or something else was); 2 bad usage.";
 
 struct Options {
     pages: usize,

@@ -10,16 +10,20 @@ use tl_rattle::{words_for, Dom};
 #[derive(Clone)]
 pub struct Questions {
     pub names: Vec<Vec<u8>>,
+    pub classes: Vec<Vec<u8>>,
     pub selectors: Vec<Vec<u8>>,
     /// of how many tags, the latest and others by chance, every name and the text is asked
     pub tags: usize,
     /// and below how many every selector
     pub below: usize,
+    /// whether every class and selector is asked in the finished view, or some in turn
+    pub in_view: bool,
 }
 
-/// How much is asked: at most so many names and so many tags, and as many selectors.
+/// How much is asked: at most so many names, classes and tags, and as many selectors.
 pub struct Extent {
     pub names: usize,
+    pub classes: usize,
     pub selectors: usize,
     pub tags: usize,
     pub below: usize,
@@ -48,9 +52,12 @@ pub fn questions(random: &mut Random, dom: &Dom<'_>, extent: &Extent) -> Questio
     }
     Questions {
         names,
+        // of a source beside, so that what was asked before they were stays as it was
+        classes: classes(&mut random.clone(), &words, extent.classes),
         selectors: selectors(random, &words, extent.selectors),
         tags: extent.tags,
         below: extent.below,
+        in_view: false,
     }
 }
 
@@ -155,7 +162,14 @@ fn cut_at_white(value: &[u8]) -> impl Iterator<Item = &[u8]> {
     parts.filter(|part| !part.is_empty())
 }
 
-// ---- selectors
+// ---- classes and selectors
+
+/// Of those that occur, and one that need not.
+fn classes(random: &mut Random, words: &Words, many: usize) -> Vec<Vec<u8>> {
+    let mut all = random.some_of(&words.classes, many.saturating_sub(1));
+    all.push(word(random, &words.classes, CLASSES));
+    all
+}
 
 #[rustfmt::skip]
 const UNREAD: &[&[u8]] = &[
@@ -163,6 +177,9 @@ const UNREAD: &[&[u8]] = &[
     b"[k~v]", b"[k|=v]", b"!", b"a >", b"> a", b"a!", b"(a)", b"a\tb", b"\xff", b"a\xc2\xa0b",
     b"[k=v]]", b"a\n",
 ];
+
+/// Classes besides those that occur.
+const CLASSES: &[&[u8]] = &[b"fill", b"", b"none"];
 
 /// Of every kind and with every joiner, some that cannot be read, some that are too long; then others by chance.
 fn selectors(random: &mut Random, words: &Words, many: usize) -> Vec<Vec<u8>> {
@@ -218,11 +235,7 @@ fn simple(random: &mut Random, words: &Words, kind: usize) -> Vec<u8> {
             word(random, &words.ids, &[b"a", b"", b"none"]),
         ]
         .concat(),
-        3 => [
-            b".".to_vec(),
-            word(random, &words.classes, &[b"fill", b"", b"none"]),
-        ]
-        .concat(),
+        3 => [b".".to_vec(), word(random, &words.classes, CLASSES)].concat(),
         4 => b"*".to_vec(),
         5 => {
             let name = word(random, &words.names, &[b"k", b"", b"id", b"class"]);
@@ -332,6 +345,7 @@ mod tests {
 
     const EXTENT: Extent = Extent {
         names: usize::MAX,
+        classes: 2,
         selectors: 40,
         tags: 0,
         below: 0,

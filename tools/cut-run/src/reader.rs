@@ -1,7 +1,7 @@
 //! The calls that the comparison asks.
 
 use tl_rattle::calls::{self, HeldAt};
-use tl_rattle::{Profile, Refusal};
+use tl_rattle::{Manner, Profile, Refusal, View};
 
 pub trait Reader {
     fn parse(&self, profile: &Profile, page: &[u8], table: &mut [u32]) -> Result<usize, Refusal> {
@@ -13,20 +13,38 @@ pub trait Reader {
         calls::attribute(profile, page, table, handle as usize, name)
     }
 
-    fn query(&self, asked: Asked<'_>, selector: &[u8], out: &mut [u32]) -> Result<usize, Refusal> {
+    fn class(
+        &self,
+        asked: Asked<'_>,
+        view: View,
+        class: &[u8],
+        out: &mut [u32],
+    ) -> Result<usize, Refusal> {
         let (profile, page, table) = asked.all();
-        calls::query_selector(profile, page, table, selector, out)
+        calls::get_elements_by_class_name(profile, page, table, Manner::Scan, view, class, out)
+    }
+
+    fn query(
+        &self,
+        asked: Asked<'_>,
+        view: View,
+        selector: &[u8],
+        out: &mut [u32],
+    ) -> Result<usize, Refusal> {
+        let (profile, page, table) = asked.all();
+        calls::query_selector(profile, page, table, view, selector, out)
     }
 
     fn below(
         &self,
         asked: Asked<'_>,
         handle: u32,
+        view: View,
         selector: &[u8],
         out: &mut [u32],
     ) -> Result<usize, Refusal> {
         let (profile, page, table) = asked.all();
-        calls::query_selector_below(profile, page, table, handle as usize, selector, out)
+        calls::query_selector_below(profile, page, table, handle as usize, view, selector, out)
     }
 
     fn text(&self, asked: Asked<'_>, handle: u32, out: &mut [u8]) -> Result<usize, Refusal> {

@@ -1,8 +1,17 @@
 //! A table's rows, by their words.
 
+use tl_rattle::ROW_WORDS;
+
 /// A table, which holds its header and its rows.
 #[derive(Clone, Copy)]
 pub struct Rows<'t>(pub &'t [u32]);
+
+impl<'t> Rows<'t> {
+    /// A row's nine words.
+    pub fn row(self, handle: u32) -> &'t [u32] {
+        &self.0[Rows::at(handle)..][..ROW_WORDS]
+    }
+}
 
 impl Rows<'_> {
     /// Where the row of a handle starts.
@@ -12,6 +21,11 @@ impl Rows<'_> {
 
     pub fn count(self) -> u32 {
         self.0[0]
+    }
+
+    /// The last row of those that are so.
+    pub fn last_with(self, with: impl Fn(u32) -> bool) -> Option<u32> {
+        (0..self.count()).rev().find(|handle| with(*handle))
     }
 
     pub fn word(self, handle: u32, word: usize) -> u32 {
@@ -68,6 +82,11 @@ impl Rows<'_> {
     /// opened.
     pub fn ended(self, handle: u32) -> u32 {
         self.word(handle, 8)
+    }
+
+    /// A tag that the view of the finished tags shows: a closing tag with its `>` closed it, or it was never opened.
+    pub fn is_finished(self, handle: u32) -> bool {
+        self.is_tag(handle) && matches!(self.ended(handle), 1 | 3)
     }
 
     /// The bytes of the texts after a tag up to its last, if they lie in the page.

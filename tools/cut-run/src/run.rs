@@ -27,10 +27,11 @@ pub fn compare<R: Reader, B: Reader>(
 
 /// The page with as much left out as can be, while its beginnings, read by `reader`, still differ in the same clause.
 pub fn smallest<R: Reader>(case: &Case, reader: &R, clause: Clause) -> Vec<u8> {
-    // of every tag, so that nothing is left to chance
+    // of every tag and in either view, so that nothing is left to chance
     let questions = Questions {
         tags: usize::MAX,
         below: usize::MAX,
+        in_view: true,
         ..case.questions.clone()
     };
     let differs = |page: &[u8]| {
@@ -126,7 +127,10 @@ fn print(counts: &Counts) {
         "cuts {}, of these with nothing to compare {}, as the page is over its profile's limit",
         counts.cuts, counts.over_limit
     );
-    println!("tags {}, each with start, name, parent and words 3 to 5", counts.tags);
+    println!(
+        "tags {}, each with start, name, parent and words 3 to 5",
+        counts.tags
+    );
     println!(
         "attribute answers {}: absent {}, without a value {}, with a value {}",
         counts.absent + counts.bare + counts.values,
@@ -147,9 +151,10 @@ fn print(counts: &Counts) {
         counts.ranges, counts.descendants
     );
     print_texts(counts);
+    println!("{}", counts.view);
     println!("differences {}", counts.differences);
     println!(
-        "word 8 of a tag, in no clause, whole page to beginning: {}",
+        "word 8 of a tag, where it differs, whole page to beginning: {}",
         counts.ended
     );
 }

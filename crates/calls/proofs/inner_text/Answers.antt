@@ -1,5 +1,5 @@
 -- `calls::inner_text` meets its contract: what the check refused.
-use Rattle.std.proofs.Common.{sym, ◌∙◌}
+use Rattle.std.proofs.Common.{sym}
 use Rattle.rules.specs.Profile.{settings_of}
 use Rattle.rules.specs.Answers.{text_answer, text_buffer}
 use Rattle.rules.proofs.Asking.{refused_tag, leaves_refused}

@@ -27,6 +27,6 @@ returns-in-Ok c =
     let last : c.row-last.result.last ≡ last_at ws h = ap (λ (n : Node). n.last) node in
     let below : c.row-last.result.last + 1 - (h + 1) ≡ last_at ws h - h = omega arith in
     let w = rw (lent.0, lent.1, lent.2, below, add-one) at c.select.ensures in
-    let found = selected (below_tag f.white p ws c.args.s.now h) c.args.s.now (length c.args.out.now) in
+    let found = selected (below_tag f.white p ws c.args.view c.args.s.now h) c.args.s.now (length c.args.out.now) in
     let e = answered_tag f p ws h found (was_fine_tag f p ws h (sym c.in-Ok.ensures.answer)) in
     record { is = w.is ∙ sym e; left = w.left ∙ rw (e, w.is) }

@@ -12,8 +12,8 @@ invariant-loop-h g l = record {
   end : l.rest.end ≡ l.fn.handles.end;
   walked : (P : Node → Bool) → ((n : Node) (b : Bool) → goal.F-post g l.test n b → b ≡ P n)
       → let ws = l.d.table.now in
-      Walked (passing P ws (from l.fn.handles.start (l.fn.handles.end - l.fn.handles.start))) l.initial.out l.out l.n
-      (passing P ws (from l.rest.start (l.rest.end - l.rest.start)));
+      Walked (passing l.view P ws (from l.fn.handles.start (l.fn.handles.end - l.fn.handles.start))) l.initial.out l.out l.n
+      (passing l.view P ws (from l.rest.start (l.rest.end - l.rest.start)));
 }
 
 abbrev pub decreases-loop-h : goal.decreases-loop-h

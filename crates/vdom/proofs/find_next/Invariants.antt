@@ -11,5 +11,5 @@ invariant-loop-h g l = record {
   high : l.h-iterator.start ≤ l.fn.handles.end;
   end : l.h-iterator.end ≡ l.fn.handles.end;
   none : (P : Node → Bool) → ((n : Node) (b : Bool) → goal.F-post g l.test n b → b ≡ P n)
-      → passing P l.d.table.now (from l.fn.handles.start (l.h-iterator.start - l.fn.handles.start)) ≡ [];
+      → passing l.view P l.d.table.now (from l.fn.handles.start (l.h-iterator.start - l.fn.handles.start)) ≡ [];
 }

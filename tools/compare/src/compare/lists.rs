@@ -57,11 +57,12 @@ impl Run<'_, '_> {
         let room = self.room(words);
         let answered = ours(self, room);
         let paper = self.expect(held.clone());
-        let as_tl = self.as_tl(&held, Departure::RepeatedAttribute, |run, way| {
-            run.asked.attributes(handles, names, way)
-        });
-        let tl = self.tl.as_ref();
-        let tl = tl.map(|tl| (tl.attributes(handles, names), as_tl.unwrap_or(held)));
+        let tl = self.beside_tl(
+            &held,
+            Departure::RepeatedAttribute,
+            |run, way| run.asked.attributes(handles, names, way),
+            |tl| tl.attributes(handles, names),
+        );
         check(&mut self.found, &ask, answered, &paper, tl);
         if self.try_short(words) {
             let short = ours(self, words - 1);

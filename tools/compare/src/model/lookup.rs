@@ -1,7 +1,7 @@
 //! The questions to a page and its table: ranges, texts, attributes, ids and classes.
 use super::cursor::Cursor;
 use super::reader::{attributes, Attribute};
-use super::{Held, Manner, Profile, Row, Way};
+use super::{Held, Manner, Profile, Row, View, Way};
 use std::collections::HashSet;
 
 /// A page with its rows, ready to be asked. Each tag's attributes are read once, from its name's end to its opening.
@@ -119,9 +119,16 @@ impl<'p> Asked<'p> {
         class_words(value).filter(|word| *word == class).count()
     }
 
+    /// Of some rows those that a view shows.
+    pub fn shown(&self, view: View, mut handles: Vec<usize>) -> Vec<usize> {
+        handles.retain(|&handle| view.shows(&self.rows[handle]));
+        handles
+    }
+
     pub fn by_id(&self, manner: Manner, id: &[u8]) -> Option<usize> {
         match manner {
-            Manner::Scan => (0..self.rows.len()).find(|&handle| self.has_id(handle, id)),
+            Manner::Scan(view) => (0..self.rows.len())
+                .find(|&handle| view.shows(&self.rows[handle]) && self.has_id(handle, id)),
             Manner::Closed => self
                 .closing_order()
                 .into_iter()
@@ -131,9 +138,11 @@ impl<'p> Asked<'p> {
 
     pub fn by_class(&self, manner: Manner, class: &[u8], way: Way) -> Vec<usize> {
         match manner {
-            Manner::Scan => (0..self.rows.len())
-                .filter(|&handle| self.times(handle, class, way) > 0)
-                .collect(),
+            Manner::Scan(view) => {
+                let handles = 0..self.rows.len();
+                let all = handles.filter(|&handle| self.times(handle, class, way) > 0);
+                self.shown(view, all.collect())
+            }
             Manner::Closed => self
                 .closing_order()
                 .into_iter()

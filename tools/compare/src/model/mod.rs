@@ -1,5 +1,5 @@
 //! The paper's rules, written down a second time and as plainly as possible. The model is the second opinion on every page,
-//! and the only one on tables that no reading made and under profiles that tl does not have.
+//! and the only one on tables that no reading made, under profiles that tl does not have, and in the finished view.
 //!
 //! Where tl is known to depart from the paper, the model can answer in tl's way too (`Way`), so that tl is held to something
 //! exact there as well.
@@ -90,12 +90,37 @@ pub enum Held {
     Value(Span),
 }
 
-/// The two manners of a lookup.
+/// Which rows a lookup in the scan, or a query, goes over.
+#[derive(Clone, Copy, Debug, PartialEq, Eq)]
+pub enum View {
+    All,
+    Finished,
+}
+
+pub const VIEWS: [View; 2] = [View::All, View::Finished];
+
+impl View {
+    /// The finished ones are the tags whose word 8 is 1 or 3.
+    pub fn shows(self, row: &Row) -> bool {
+        match self {
+            View::All => true,
+            View::Finished => row.is_tag() && [1, 3].contains(&(row.ended as u32)),
+        }
+    }
+}
+
+/// The two manners of a lookup. The closed one has no view.
 #[derive(Clone, Copy, Debug, PartialEq, Eq)]
 pub enum Manner {
-    Scan,
+    Scan(View),
     Closed,
 }
+
+pub const MANNERS: [Manner; 3] = [
+    Manner::Scan(View::All),
+    Manner::Scan(View::Finished),
+    Manner::Closed,
+];
 
 /// Whose answer is wanted where paper and tl are known to differ.
 #[derive(Clone, Copy, Debug, PartialEq, Eq)]

@@ -2,8 +2,8 @@
 //! profile, and restores them afterwards.
 use super::lists::{body, list_refused};
 use super::{
-    all_refused, filled, manners, numbers_of, one_refused, questions, refused, three_of, Recording,
-    MARK,
+    all_refused, filled, numbers_of, one_refused, questions, refused, three_of, Recording, MANNERS,
+    MARK, VIEWS,
 };
 use crate::model::{
     self, words_for, Asked, Names, Profile, ProfileBytes, Reading, NAMES, NAMES_AT, NAME_BYTES,
@@ -105,7 +105,10 @@ fn of_tag(to: &mut Recording, asked: &Asked, tag: usize) {
     let selector = b"[k=c],br";
     let count = asked.rows[tag].last - tag;
     let found = asked.find(tag + 1, count, selector, &chain(selector), PAPER);
-    to.list(([9, tag, 4, 0], selector, "below"), 4, 1, &Ok(found));
+    for (number, view) in VIEWS {
+        let found = Ok(asked.shown(view, found.clone()));
+        to.list(([9, tag, 4, number], selector, "below"), 4, 1, &found);
+    }
 }
 
 fn chain(selector: &[u8]) -> Vec<model::Piece> {
@@ -113,18 +116,26 @@ fn chain(selector: &[u8]) -> Vec<model::Piece> {
 }
 
 fn lookups(to: &mut Recording, asked: &Asked) {
-    for (number, manner) in manners() {
+    for ([number, view], manner) in MANNERS {
         let found = asked
             .by_id(manner, b"i")
             .map_or([0; 3], |handle| [0, 1, handle]);
-        to.record([5, number, 0, 0], b"i", "id", &found);
+        to.record([5, number, view, 0], b"i", "id", &found);
         let found = Ok(asked.by_class(manner, b"c", PAPER));
-        to.list(([6, number, 2, 0], b"c", "class"), 2, 1, &found);
+        to.list(([6, number, 2, view], b"c", "class"), 2, 1, &found);
     }
     for selector in [&b"*"[..], b"[k=a],[class~=c],x,br"] {
-        let found = asked.find(0, asked.rows.len(), selector, &chain(selector), PAPER);
-        let room = found.len() + 1;
-        to.list(([8, 0, room, 0], selector, "query"), room, 1, &Ok(found));
+        let all = asked.find(0, asked.rows.len(), selector, &chain(selector), PAPER);
+        for (number, view) in VIEWS {
+            let found = asked.shown(view, all.clone());
+            let room = found.len() + 1;
+            to.list(
+                ([8, number, room, 0], selector, "query"),
+                room,
+                1,
+                &Ok(found),
+            );
+        }
     }
 }
 

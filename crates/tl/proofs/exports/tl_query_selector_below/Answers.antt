@@ -3,4 +3,4 @@ use Rattle.tl.proofs.Left.{exported}
 use Rattle.tl.proofs.exports.tl_query_selector_below.Goals as goal
 
 pub returns : goal.returns
-returns c = exported c.query_selector_below.ensures.is c.query_selector_below.ensures.left c.leave.ensures.ok c.leave.ensures.err
+returns c = let e = rw c.from-view.ensures at c.query_selector_below.ensures in exported e.is e.left c.leave.ensures.ok c.leave.ensures.err
