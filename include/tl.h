@@ -92,7 +92,9 @@ uint32_t tl_range(const struct tl_profile *profile, const uint8_t *page, size_t 
                   size_t table_len, size_t handle, size_t answer[3]);
 
 /* What a tag holds for an attribute name. answer: 0 absent, 1 without a value, 2 with a value; where that starts in the page,
- * and ends. Refused as 14, 1, 3, 4. */
+ * and ends. A caller with a fallback of its own takes the bytes from page + answer[1] up to page + answer[2] if answer[0] is 2,
+ * even where there are none, and else the whole fallback; a refusal, which leaves 0 there, is told by its number.
+ * Refused as 14, 1, 3, 4. */
 uint32_t tl_attribute(const struct tl_profile *profile, const uint8_t *page, size_t page_len, const uint32_t *table,
                       size_t table_len, size_t handle, const uint8_t *name, size_t name_len, size_t answer[3]);
 

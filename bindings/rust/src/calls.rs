@@ -1,4 +1,5 @@
-//! The calls on slices that the caller lends, one for each of [`sys`]: nothing is allocated, and no condition is left.
+//! The calls on slices that the caller lends, one for each of [`sys`], and [`attribute_or`]: nothing is allocated, and no
+//! condition is left.
 //!
 //! The profile may be one that is not fine, and the table any words: a call is then refused as [`Refusal::ProfileNotFine`],
 //! or, where the table is not sound for the page, as [`Refusal::TableNotSound`]. A table should be asked under the profile
@@ -28,6 +29,14 @@ impl HeldAt {
             [0, _, _] => HeldAt::Absent,
             [1, _, _] => HeldAt::Bare,
             [_, start, end] => HeldAt::Value(start, end),
+        }
+    }
+
+    /// The value's part of the page, or the whole fallback where there is none.
+    fn part_or<'f>(self, page: &'f [u8], fallback: &'f [u8]) -> &'f [u8] {
+        match self {
+            HeldAt::Absent | HeldAt::Bare => fallback,
+            HeldAt::Value(start, end) => &page[start..end],
         }
     }
 }
@@ -134,7 +143,7 @@ pub fn check(profile: &Profile, page: &[u8], table: &[u32]) -> Result<(), Refusa
     }
 }
 
-/// What a tag holds for an attribute name.
+/// What a tag holds for an attribute name, by places: [`attribute_or`] with an empty fallback.
 ///
 /// # Errors
 /// [`Refusal::ProfileNotFine`], [`Refusal::PageTooLong`], [`Refusal::TableNotSound`], [`Refusal::NotATag`].
@@ -145,6 +154,34 @@ pub fn attribute(
     handle: usize,
     name: &[u8],
 ) -> Result<HeldAt, Refusal> {
+    let (_, held) = attribute_or(profile, page, table, handle, name, b"")?;
+    Ok(held)
+}
+
+/// The value that a tag holds for an attribute name, which is a part of the page, or the whole fallback where the attribute
+/// is absent or has no value; and which of the three it is, since the part alone does not say so. An empty value is a value.
+///
+/// ```
+/// use tl_rattle::calls::{self, HeldAt};
+/// use tl_rattle::{words_for, Profile};
+/// let (page, mut table) = (b"<td data-venue=XLON>", [0; words_for(1)]);
+/// calls::parse(&Profile::TL, page, &mut table)?;
+/// let held = |name| calls::attribute_or(&Profile::TL, page, &table, 0, name, b"XNYS");
+/// assert_eq!(held(b"data-venue")?, (&b"XLON"[..], HeldAt::Value(15, 19)));
+/// assert_eq!(held(b"venue")?, (&b"XNYS"[..], HeldAt::Absent));
+/// # Ok::<(), tl_rattle::Refusal>(())
+/// ```
+///
+/// # Errors
+/// [`Refusal::ProfileNotFine`], [`Refusal::PageTooLong`], [`Refusal::TableNotSound`], [`Refusal::NotATag`].
+pub fn attribute_or<'f>(
+    profile: &Profile,
+    page: &'f [u8],
+    table: &[u32],
+    handle: usize,
+    name: &[u8],
+    fallback: &'f [u8],
+) -> Result<(&'f [u8], HeldAt), Refusal> {
     let mut answer = [0usize; 3];
     // SAFETY: each pointer is a profile's, or a slice's, given with its length; `answer` is three usizes of this
     // function's own.
@@ -162,7 +199,8 @@ pub fn attribute(
         )
     };
     outcome(number)?;
-    Ok(HeldAt::from_words(answer))
+    let held = HeldAt::from_words(answer);
+    Ok((held.part_or(page, fallback), held))
 }
 
 /// Writes the text below a tag: how many bytes it has.

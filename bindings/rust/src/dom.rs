@@ -334,14 +334,47 @@ impl<'a> Dom<'a> {
     where
         N: AsRef<[u8]>,
     {
-        let at = calls::attribute(
+        let (_, held) = self.attribute_or(handle, name, b"")?;
+        Ok(held)
+    }
+
+    /// The value that a tag holds for an attribute name, or the whole fallback where the tag does not have the attribute or
+    /// has it without a value; and which of the three it holds. An empty value is a value. What counts is as for
+    /// [`Dom::attribute`].
+    ///
+    /// ```
+    /// use tl_rattle::{Handle, Held};
+    /// let dom = tl_rattle::parse("<td data-venue=XLON><td data-venue><td><td data-venue=''>")?;
+    /// let venue = |cell| dom.attribute_or(Handle::new(cell), "data-venue", "XNYS");
+    /// assert_eq!(venue(0)?, (&b"XLON"[..], Held::Value(b"XLON")));
+    /// assert_eq!(venue(1)?, (&b"XNYS"[..], Held::Bare));
+    /// assert_eq!(venue(2)?, (&b"XNYS"[..], Held::Absent));
+    /// assert_eq!(venue(3)?, (&b""[..], Held::Value(b"")));
+    /// # Ok::<(), tl_rattle::Refusal>(())
+    /// ```
+    ///
+    /// # Errors
+    /// [`Refusal::NotATag`].
+    pub fn attribute_or<'f, N, F>(
+        &self,
+        handle: Handle,
+        name: N,
+        fallback: &'f F,
+    ) -> Result<(&'f [u8], Held<'a>), Refusal>
+    where
+        'a: 'f,
+        N: AsRef<[u8]>,
+        F: AsRef<[u8]> + ?Sized,
+    {
+        let (part, at) = calls::attribute_or(
             self.profile,
             self.page,
             self.table(),
             handle.index(),
             name.as_ref(),
+            fallback.as_ref(),
         )?;
-        Ok(self.held(at))
+        Ok((part, self.held(at)))
     }
 
     pub(crate) fn held(&self, at: HeldAt) -> Held<'a> {

@@ -28,6 +28,25 @@
 //! # Ok::<(), Box<dyn std::error::Error>>(())
 //! ```
 //!
+//! # A venue when the page names none
+//!
+//! Many cells leave out `data-venue` where the usual one is meant. [`Dom::attribute_or`] takes that as a fallback: it hands
+//! back the value or the whole fallback, and says which of the three held.
+//!
+//! ```
+//! use tl_rattle::Held;
+//! let dom = tl_rattle::parse("<td data-venue=XLON>120</td><td>80</td>")?;
+//! let cells = dom.query_selector("td")?;
+//! let venue = |cell| dom.attribute_or(cell, "data-venue", "XNYS");
+//! assert_eq!(venue(cells[0])?, (&b"XLON"[..], Held::Value(b"XLON")));
+//! assert_eq!(venue(cells[1])?, (&b"XNYS"[..], Held::Absent));
+//! // of many cells in one call
+//! let held = dom.attributes(&cells, "data-venue")?;
+//! let venues: Vec<_> = held.iter().map(|held| held.value().unwrap_or(b"XNYS")).collect();
+//! assert_eq!(venues, [b"XLON", b"XNYS"]);
+//! # Ok::<(), tl_rattle::Refusal>(())
+//! ```
+//!
 //! # A page that broke off
 //!
 //! A page may end in the middle of a row. The lookups of a [`Dom`] find all rows, that one too, as a dealer wants to see
@@ -58,7 +77,7 @@
 //! | `Node::{Tag, Raw, Comment}`, `HTMLTag` | [`Node`] with its [`Kind`]: `Tag`, `Text`, `Comment` |
 //! | `VDom::nodes`, `VDom::children`, `HTMLTag::children` | [`Dom::nodes`], [`Dom::children`], [`Node::children`] |
 //! | `Children::boundaries` | [`Dom::range`] |
-//! | `Attributes::get` | [`Dom::attribute`] |
+//! | `Attributes::get` | [`Dom::attribute`]; with a fallback [`Dom::attribute_or`] |
 //! | `VDom::{get_element_by_id, get_elements_by_class_name, query_selector}` | the same of [`Dom`], over all nodes |
 //! | tracking of ids and classes | [`Manner::Closed`] |
 //! | `queryselector::Selector` | the [`Piece`]s of [`parse_query_selector`] |

@@ -105,7 +105,8 @@ extern "C" {
     ) -> u32;
 
     /// What a tag holds for an attribute name. `answer`, three entries: 0 absent, 1 without a value, 2 with a value;
-    /// where that starts in the page, and ends. Refused as 14, 1, 3, 4.
+    /// where that starts in the page, and ends. A caller with a fallback of its own takes these bytes if the first is 2, even
+    /// where there are none, and else the whole fallback. Refused as 14, 1, 3, 4.
     pub fn tl_attribute(
         profile: *const tl_profile,
         page: *const u8,

@@ -73,6 +73,8 @@ fn any_words_as_a_table() {
         assert_eq!(Dom::from_table(page, table).err(), Some(refused));
         assert_eq!(calls::range(TL, page, table, 0), Err(refused));
         assert_eq!(calls::attribute(TL, page, table, 0, b"k"), Err(refused));
+        let said = calls::attribute_or(TL, page, table, 0, b"k", b"XNYS");
+        assert_eq!(said, Err(refused));
         let mut out = [7; 2];
         let said = calls::inner_text(TL, page, table, 0, &mut out);
         assert_eq!((said, out), (Err(refused), [0; 2]));
@@ -305,6 +307,18 @@ fn a_range_and_an_attribute_leave_zeros() {
     for (number, lent) in Lent::refused() {
         assert_eq!(range(&lent, 1), (number, [0; 3]));
         assert_eq!(attribute(&lent, 1, b"k"), (number, [0; 3]));
+    }
+}
+
+/// 14, 1, 3 and 4, and in this order, since each of the first three has the reasons for those behind it too.
+#[test]
+fn a_refusal_hands_no_fallback_back() {
+    for (number, lent) in Lent::refused() {
+        let (profile, page, table) = (&lent.profile, &lent.page, &lent.table);
+        for fallback in [b"", &b"XNYS"[..], page] {
+            let said = calls::attribute_or(profile, page, table, 1, b"k", fallback);
+            assert_eq!(said.map_err(Refusal::number), Err(number));
+        }
     }
 }
 

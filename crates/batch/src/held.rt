@@ -36,7 +36,8 @@ fn put_attributes(tags: &Tags, name: &[u8], out: &mut [u32])
     let d = &tags.document;
     let mut at = 0;
     for &h in tags.handles {
-        let held = Tag::of(d, h as usize).attribute(&t, name);
+        let mut held = Held::Absent;
+        Tag::of(d, h as usize).attribute(&t, name, b"", &mut held);
         at = put_held(held, out, at);
     }
 }

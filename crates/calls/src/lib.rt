@@ -6,12 +6,11 @@
 ghost use Rattle.std.specs.Prelude.{◌≡◌, ◌-◌, ◌≤◌, ◌<◌, length};
 ghost use Rattle.rules.specs.Profile.{white_of, settings_of};
 ghost use Rattle.rules.specs.Query.{among};
-ghost use Rattle.rules.specs.Refusals.{Leaves, Counts, held_part};
+ghost use Rattle.rules.specs.Refusals.{Leaves, Counts, asked_numbers};
 ghost use Rattle.rules.specs.Lists.{from};
 ghost use Rattle.rules.specs.Sound.{count_of};
 ghost use Rattle.rules.specs.Text.{inner_text};
 ghost use Rattle.rules.specs.Finds.{by_class};
-ghost use Rattle.rules.specs.Lookup.{Inside};
 ghost use Rattle.rules.specs.Answers.{range_answer, text_answer, text_buffer, attribute_answer, attribute_part, id_answer, class_answer};
 ghost use Rattle.rules.specs.Answers.{class_buffer, query_answer, query_buffer, query_below_answer, query_below_buffer};
 ghost use Rattle.calls.specs.Calls.{Selects};
@@ -43,9 +42,9 @@ pub fn range(
     Ok(tag::range(h, c.document.row(h).last as usize))
 }
 
-// What a tag holds for an attribute name.
+// What a tag holds for an attribute name, by places: for the exports, which hand back no part of a page.
 #[tactic(auto, unfolding(rules::specs::Answers::attribute_answer))]
-pub fn attribute(
+pub fn attribute_places(
     profile: &[u8; SIZE],
     page: &[u8],
     table: &[u32],
@@ -56,34 +55,41 @@ pub fn attribute(
 {
     let c = check_tag(profile, page, table, h)?;
     let t = c.profile.marks();
-    Ok(Tag::of(&c.document, h).attribute(&t, name))
+    let mut held = Held::Absent;
+    Tag::of(&c.document, h).attribute(&t, name, b"", &mut held);
+    Ok(held)
 }
 
-// The part of the page that is held: empty without a value.
-fn held_part<'a>(page: &'a [u8], held: Held) -> &'a [u8]
-    requires { Inside (length page.now) held }
-    ensures { result.now ≡ held_part page.now held }
-{
-    match held {
-        Held::Absent | Held::Bare => &page[..0],
-        Held::Value(start, end) => &page[start..end],
-    }
-}
-
-// The part of the page that a tag holds for an attribute name: empty without a value, and where `attribute` refuses.
-pub fn attribute_value<'a>(
+// What a tag holds for an attribute name: the value's part of the page, or the whole fallback where the name is absent or has no value; an
+// empty part where the call refuses. The numbers say what was answered: the refusal's or 0, which of the three held, where a value starts
+// and ends.
+#[tactic(auto, unfolding(rules::specs::Answers::attribute_answer, rules::specs::Answers::attribute_part))]
+pub fn attribute<'a>(
     profile: &[u8; SIZE],
     page: &'a [u8],
     table: &[u32],
     h: usize,
     name: &[u8],
+    fallback: &'a [u8],
+    numbers: &mut [usize; 4],
 ) -> &'a [u8]
-    ensures { result.now ≡ attribute_part (settings_of profile.now) page.now table.now h name.now }
+    ensures part { result.now ≡ attribute_part (settings_of profile.now) page.now table.now h name.now fallback.now }
+    ensures numbers { numbers.new ≡ asked_numbers (attribute_answer (settings_of profile.now) page.now table.now h name.now) }
 {
-    let Ok(held) = attribute(profile, page, table, h, name) else {
-        return &page[..0];
-    };
-    held_part(page, held)
+    match check_tag(profile, page, table, h) {
+        Err(why) => {
+            *numbers = [u32::from(why) as usize, 0, 0, 0];
+            &page[..0]
+        }
+        Ok(c) => {
+            let t = c.profile.marks();
+            let mut held = Held::Absent;
+            let part = Tag::of(&c.document, h).attribute(&t, name, fallback, &mut held);
+            let [which, start, end] = held.numbers();
+            *numbers = [0, which, start, end];
+            part
+        }
+    }
 }
 
 // Writes the inner text of h, or refuses it as 7.

@@ -16,18 +16,18 @@ use sound::Document;
 
 // What a call asks: a document, and the profile that it is read by.
 #[derive(Clone, Copy)]
-pub struct Checked<'a> {
+pub struct Checked<'p, 'a> {
     pub profile: Profile<'a>,
-    pub document: Document<'a>,
+    pub document: Document<'p, 'a>,
     ghost short: { page_too_long (settings_of profile.bytes.now) document.page.now ≡ false },
 }
 
 // Refusals 14, 1 and 3.
-pub fn check<'a>(
+pub fn check<'p, 'a>(
     profile: &'a [u8; SIZE],
-    page: &'a [u8],
+    page: &'p [u8],
     table: &'a [u32],
-) -> Result<Checked<'a>, Refusal>
+) -> Result<Checked<'p, 'a>, Refusal>
     ensures answer { told result ≡ asking (settings_of profile.now) page.now table.now (Ok tt) }
     ensures lent { IfOk result
         (λ c. (c.profile.bytes.now ≡ profile.now) × (c.document.page.now ≡ page.now) × (c.document.table.now ≡ table.now)) }
@@ -40,12 +40,12 @@ pub fn check<'a>(
 // ---- handles
 
 // Refusals 14, 1, 3 and 4.
-pub fn check_tag<'a>(
+pub fn check_tag<'p, 'a>(
     profile: &'a [u8; SIZE],
-    page: &'a [u8],
+    page: &'p [u8],
     table: &'a [u32],
     h: usize,
-) -> Result<Checked<'a>, Refusal>
+) -> Result<Checked<'p, 'a>, Refusal>
     ensures answer { told result ≡ asking_tag (settings_of profile.now) page.now table.now h (Ok tt) }
     ensures lent { IfOk result
         (λ c. (c.profile.bytes.now ≡ profile.now) × (c.document.page.now ≡ page.now) × (c.document.table.now ≡ table.now)) }
@@ -61,7 +61,7 @@ pub fn check_tag<'a>(
 #[derive(Clone, Copy)]
 pub struct Tags<'a> {
     pub profile: Profile<'a>,
-    pub document: Document<'a>,
+    pub document: Document<'a, 'a>,
     pub handles: &'a [u32],
     ghost short: { page_too_long (settings_of profile.bytes.now) document.page.now ≡ false },
     ghost each: { AllTags document.table.now handles.now },

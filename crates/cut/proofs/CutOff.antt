@@ -114,10 +114,10 @@ module _ (f : Settings) (p : List ℕ) (n : ℕ) (hn : n ≤ length p) where
       same_attribute k = attribute_is A h k t ∙ (ap Ok (same_lookup k) ∙ sym (attribute_is B h k (in_whole h t).0))
 
       -- a value lies before word 5, so before the cut
-      same_part : (v : Held) → Inside n v → held_part q v ≡ held_part p v
-      same_part Absent i = refl
-      same_part Bare i = refl
-      same_part (Value a e) i = part_cut p n a e i.1
+      same_part : (b : List ℕ) (v : Held) → Inside n v → held_part q b v ≡ held_part p b v
+      same_part b Absent i = refl
+      same_part b Bare i = refl
+      same_part b (Value a e) i = part_cut p n a e i.1
 
       before_cut : (k : List ℕ) → Inside n (lookup f.white q (node_at ws h) k)
       before_cut k =
@@ -125,12 +125,12 @@ module _ (f : Settings) (p : List ℕ) (n : ℕ) (hn : n ≤ length p) where
           let l : length r ≤ n = omega (arith, length-take (node_at ws h).opened q, length-take n p) in
           inside_more (length r) n (lookup f.white q (node_at ws h) k) l (lookup_inside f.white r (node_at ws h).stop k)
 
-      same_value : (k : List ℕ) → attribute_part f q ws h k ≡ attribute_part f p vs h k
+      same_value : (k b : List ℕ) → attribute_part f q ws h k b ≡ attribute_part f p vs h k b
       unfolding attribute_part
-      same_value k =
-          ap (asked_part q) (attribute_is A h k t)
-          ∙ (same_part (lookup f.white q (node_at ws h) k) (before_cut k)
-          ∙ (ap (held_part p) (same_lookup k) ∙ sym (ap (asked_part p) (attribute_is B h k (in_whole h t).0))))
+      same_value k b =
+          ap (asked_part q b) (attribute_is A h k t)
+          ∙ (same_part b (lookup f.white q (node_at ws h) k) (before_cut k)
+          ∙ (ap (held_part p b) (same_lookup k) ∙ sym (ap (asked_part p b) (attribute_is B h k (in_whole h t).0))))
 
       -- ---- clause 3: a tag fits the same selectors
 

@@ -44,9 +44,9 @@ pub record CutOff (f : Settings) (n : ℕ) (q ws p vs : List ℕ) : Type 0 where
   pub parent : (h : ℕ) → IsTag ws h → (node_at ws h).parent ≡ (node_at vs h).parent
   pub places : (h : ℕ) → IsTag ws h
       → ((node_at ws h).name ≡ (node_at vs h).name) × ((node_at ws h).stop ≡ (node_at vs h).stop) × ((node_at ws h).opened ≡ (node_at vs h).opened)
-  -- 2. the same answer for every attribute name, and the same value bytes
+  -- 2. the same of the three held for every attribute name, at the same places, and with every fallback the same bytes handed back
   pub attribute : (h : ℕ) → IsTag ws h → (k : List ℕ) → attribute_answer f q ws h k ≡ attribute_answer f p vs h k
-  pub value : (h : ℕ) → IsTag ws h → (k : List ℕ) → attribute_part f q ws h k ≡ attribute_part f p vs h k
+  pub value : (h : ℕ) → IsTag ws h → (k b : List ℕ) → attribute_part f q ws h k b ≡ attribute_part f p vs h k b
   -- 3. the same finds for every selector, over the page and below a tag, in the view of all (View.antt has the other's), with enough
   -- space in both
   pub query : (s out out' : List ℕ) → Enough (query_answer f q ws All s (length out)) → Enough (query_answer f p vs All s (length out'))

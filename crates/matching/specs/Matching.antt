@@ -2,11 +2,19 @@
 use Rattle.std.specs.Prelude.{◌≡◌, Bool, true, false, List, ℕ, ◌≤◌, ◌<◌, length, Option, Some, None}
 use Rattle.rules.specs.Scan.{pick}
 use Rattle.rules.specs.Words.{Within}
-use Rattle.rules.specs.Lookup.{Answer}
+use Rattle.rules.specs.Lookup.{Answer, absent, bare, value}
 use Rattle.rules.specs.Finds.{valued}
 use Rattle.rules.specs.declared.Node.{Node}
+use Rattle.rules.specs.declared.Held.{Held}
+use Rattle.rules.specs.declared.Held.TheVariants.{Absent, Bare, Value}
 use Rattle.rules.specs.declared.Joiner.{Joiner}
 use Rattle.rules.specs.declared.Joiner.TheVariants.{End, And, Or, Descendant, Parent}
+
+-- what a lookup answers, by which of the three held and the bytes that it handed back
+abbrev pub told_by : Held → List ℕ → Answer
+told_by Absent v = absent
+told_by Bare v = bare
+told_by (Value a e) v = value v
 
 -- r tells whether the answer is a value that passes a test; R says what the test returns, and only a value with k within may pass
 abbrev pub ValueFits : (List ℕ → Bool → Type 0) → List ℕ → Answer → Bool → Type 0

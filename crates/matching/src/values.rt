@@ -4,11 +4,11 @@ ghost use Rattle.std.specs.Prelude.{◌≡◌, Bool, false, List, ℕ};
 ghost use Rattle.std.specs.Fn.{FnReturnsAt, FnReturnsAtPair};
 ghost use Rattle.rules.specs.Scan.{part};
 ghost use Rattle.rules.specs.Words.{Within, ascii_white, has_word};
-ghost use Rattle.rules.specs.Lookup.{answer, bytes_in, class_name};
+ghost use Rattle.rules.specs.Lookup.{answer, class_name};
 ghost use Rattle.rules.specs.Finds.{valued, held_times};
 ghost use Rattle.rules.specs.Query.{present};
 ghost use Rattle.scan.specs.Marks.{white_in};
-ghost use Rattle.matching.specs.Matching.{ValueFits};
+ghost use Rattle.matching.specs.Matching.{told_by, ValueFits};
 
 use rules::Held;
 use scan::Marks;
@@ -22,13 +22,13 @@ pub(crate) struct Candidate<'a, 'b> {
     pub(crate) marks: &'b Marks,
 }
 
-impl Candidate<'_, '_> {
-    // What it holds for the name.
+impl<'a> Candidate<'a, '_> {
+    // What it holds for the name, with an empty fallback: the tests go by which of the three held.
     #[inline(always)]
-    fn attribute(&self, name: &[u8]) -> Held
-        ensures { answer (white_in self.now.marks.now) self.now.tag.page.now self.now.tag.node name.now ≡ bytes_in self.now.tag.page.now result }
+    fn attribute(&self, name: &[u8], held: &mut Held) -> &'a [u8]
+        ensures { answer (white_in self.now.marks.now) self.now.tag.page.now self.now.tag.node name.now ≡ told_by held.new result.now }
     {
-        self.tag.attribute(self.marks, name)
+        self.tag.attribute(self.marks, name, b"", held)
     }
 
     // The attribute is there, with a value or without.
@@ -36,7 +36,9 @@ impl Candidate<'_, '_> {
     pub(crate) fn has_attribute(&self, name: &[u8]) -> bool
         ensures { result ≡ present (answer (white_in self.now.marks.now) self.now.tag.page.now self.now.tag.node name.now) }
     {
-        !matches!(self.attribute(name), Held::Absent)
+        let mut held = Held::Absent;
+        self.attribute(name, &mut held);
+        !matches!(held, Held::Absent)
     }
 
     // The attribute has a value, and that fits.
@@ -46,9 +48,11 @@ impl Candidate<'_, '_> {
         ensures { (P : List ℕ → Bool) → ((v : List ℕ) (b : Bool) → FnReturnsAt F.Fn fits v b → b ≡ P v)
             → result ≡ valued P (answer (white_in self.now.marks.now) self.now.tag.page.now self.now.tag.node name.now) }
     {
-        match self.attribute(name) {
+        let mut held = Held::Absent;
+        let value = self.attribute(name, &mut held);
+        match held {
             Held::Absent | Held::Bare => false,
-            Held::Value(a, e) => fits(scan::part(self.tag.page, a, e)),
+            Held::Value(..) => fits(value),
         }
     }
 
@@ -93,9 +97,11 @@ impl Candidate<'_, '_> {
         if !self.may_have_class(k) {
             return 0;
         }
-        match self.attribute(b"class") {
+        let mut held = Held::Absent;
+        let class = self.attribute(b"class", &mut held);
+        match held {
             Held::Absent | Held::Bare => 0,
-            Held::Value(a, e) => words::times(scan::part(self.tag.page, a, e), k, White::Ascii),
+            Held::Value(..) => words::times(class, k, White::Ascii),
         }
     }
 }

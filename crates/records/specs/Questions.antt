@@ -2,7 +2,7 @@
 use Rattle.std.specs.Prelude.{ℕ, List, [], ◌∷◌}
 use Rattle.records.specs.declared.Question.{Question}
 use Rattle.records.specs.declared.Question.TheVariants.{Parse, Range, Attribute, Text, Id, Class, Selector, Query, Below}
-use Rattle.records.specs.declared.Question.TheVariants.{Attributes, Texts, Names, SetWord, SetByte}
+use Rattle.records.specs.declared.Question.TheVariants.{Attributes, Texts, Names, SetWord, SetByte, AttributeOr, AttributeOrPart}
 
 abbrev pub numbers_of : Question → List ℕ
 numbers_of (Parse words times) = 1 ∷ words ∷ times ∷ 0 ∷ []
@@ -19,3 +19,5 @@ numbers_of (Texts handles room ends) = 11 ∷ handles ∷ room ∷ ends ∷ []
 numbers_of (SetWord place value) = 12 ∷ place ∷ value ∷ 0 ∷ []
 numbers_of (Names handles room names) = 13 ∷ handles ∷ room ∷ names ∷ []
 numbers_of (SetByte place value) = 14 ∷ place ∷ value ∷ 0 ∷ []
+numbers_of (AttributeOr handle size) = 15 ∷ handle ∷ size ∷ 0 ∷ []
+numbers_of (AttributeOrPart handle from to) = 16 ∷ handle ∷ from ∷ to ∷ []

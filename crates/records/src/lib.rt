@@ -102,8 +102,8 @@ pub fn record_at(s: &[u8], at: usize) -> Option<Record>
 
 // ---- what a record asks
 
-// What is asked, with the numbers that it takes. Handles, manners, views and places in a table or a profile are what a record says, whether
-// or not they are any; room is how many entries are lent.
+// What is asked, with the numbers that it takes. Handles, manners, views and places in a table, a profile or a page are what a record says,
+// whether or not they are any; room is how many entries are lent, size how many of the bytes are a fallback.
 #[derive(Clone, Copy)]
 pub enum Question {
     Parse { words: u32, times: u32 },
@@ -120,6 +120,8 @@ pub enum Question {
     SetWord { place: u32, value: u32 },
     Names { handles: u32, room: u32, names: u32 },
     SetByte { place: u32, value: u8 },
+    AttributeOr { handle: u32, size: u32 },
+    AttributeOrPart { handle: u32, from: u32, to: u32 },
 }
 
 // No question has such numbers.
@@ -159,6 +161,8 @@ impl TryFrom<Head> for Question {
                 place,
                 value: u8::try_from(value).map_err(|_| UnknownQuestion)?,
             },
+            (15, handle, size, 0, _) => Question::AttributeOr { handle, size },
+            (16, handle, from, to, _) => Question::AttributeOrPart { handle, from, to },
             _ => return Err(UnknownQuestion),
         })
     }

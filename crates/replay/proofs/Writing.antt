@@ -13,7 +13,7 @@ use Rattle.replay.specs.Printed.{Prints, PrintsBoth}
 use Rattle.rules.specs.declared.Refusal.{Refusal}
 
 -- a line's numbers in two lists are one
-joined : {u v : Writer} (word ns ms : List ℕ) → Puts u (word ++ ((fields ns ++ fields ms) ++ line_feed)) v → Puts u (line word (ns ++ ms)) v
+pub joined : {u v : Writer} (word ns ms : List ℕ) → Puts u (word ++ ((fields ns ++ fields ms) ++ line_feed)) v → Puts u (line word (ns ++ ms)) v
 unfolding line
 joined {u} {v} word ns ms w =
     subst (λ (l : List ℕ). Puts u (word ++ (l ++ line_feed)) v) (sym (flat_map-append (λ m. field (decimal m)) ns ms)) w

@@ -1,20 +1,23 @@
 // The questions about a page and its table. Those about a list of handles are in `lists`.
 
-ghost use Rattle.std.specs.Prelude.{length};
+ghost use Rattle.std.specs.Prelude.{◌++◌, length};
 ghost use Rattle.rules.specs.Ascii.{bytes};
 ghost use Rattle.rules.specs.Profile.{settings_of};
 ghost use Rattle.rules.specs.Refusals.{manner_of, view_of, ranged_numbers, found_numbers, asked_numbers};
-ghost use Rattle.rules.specs.Answers.{range_answer, text_answer, text_buffer, attribute_answer, id_answer, class_answer, class_buffer};
+ghost use Rattle.rules.specs.Answers.{range_answer, text_answer, text_buffer, attribute_answer, attribute_part, id_answer};
+ghost use Rattle.rules.specs.Answers.{class_answer, class_buffer};
 ghost use Rattle.rules.specs.Answers.{query_answer, query_buffer, query_below_answer, query_below_buffer};
 ghost use Rattle.lines.specs.Writer.{Puts};
 ghost use Rattle.records.specs.Printed.{line};
 ghost use Rattle.replay.specs.Printed.{Prints};
 
+use crate::lending::nines;
 use lines::Writer;
 use profile::SIZE;
+use records::Question;
 
-// A profile, a page and its table, which the questions are about. Each method asks one, and writes the line of the answer. They are alike
-// but for the call: in a closure its promise would be said once more.
+// A profile, a page and its table, which the questions are about. `answer` chooses among the other methods, of which each asks one, and
+// writes the line of the answer. These are alike but for the call: in a closure its promise would be said once more.
 #[derive(Clone, Copy)]
 pub struct Document<'a> {
     pub profile: &'a [u8; SIZE],
@@ -24,6 +27,40 @@ pub struct Document<'a> {
 
 #[tactic(auto, unfolding(records::specs::Printed::line))]
 impl Document<'_> {
+    // The line of the answer to a question.
+    pub fn answer(
+        &self,
+        question: Question,
+        body: &[u8],
+        text: &mut [u8],
+        words: &mut [u32],
+        out: &mut Writer,
+    ) -> Option<()> {
+        match question {
+            Question::Range { handle } => self.range(handle, out),
+            Question::Attribute { handle } => self.attribute(handle, body, out),
+            Question::AttributeOr { handle, size } => {
+                let (fallback, name) = body.split_at_checked(size as usize)?;
+                self.attribute_or(handle, name, fallback, out);
+            }
+            Question::AttributeOrPart { handle, from, to } => {
+                let fallback = self.page.get(from as usize..to as usize)?;
+                self.attribute_or(handle, body, fallback, out);
+            }
+            Question::Text { handle, room } => self.text(handle, nines(text, room)?, out),
+            Question::Id { manner, view } => self.id(manner, view, body, out),
+            Question::Class { manner, room, view } => {
+                self.class(manner, view, body, nines(words, room)?, out)
+            }
+            Question::Query { view, room } => self.query(view, body, nines(words, room)?, out),
+            Question::Below { handle, room, view } => {
+                self.below(handle, view, body, nines(words, room)?, out)
+            }
+            _ => self.answer_of_list(question, body, text, words, out)?,
+        }
+        Some(())
+    }
+
     pub fn range(&self, h: u32, out: &mut Writer)
         ensures { let f = settings_of self.now.profile.now in
             let numbers = ranged_numbers (range_answer f self.now.page.now self.now.table.now h) in
@@ -49,6 +86,28 @@ impl Document<'_> {
             &mut answer,
         );
         records::put_line(out, b"attribute", &[number], &answer);
+    }
+
+    // The attribute with a fallback: four numbers, and then the bytes that the call hands back.
+    pub fn attribute_or(&self, h: u32, name: &[u8], fallback: &[u8], out: &mut Writer)
+        ensures { let f = settings_of self.now.profile.now in
+            let p = self.now.page.now in
+            let t = self.now.table.now in
+            let numbers = asked_numbers (attribute_answer f p t h name.now) in
+            let part = attribute_part f p t h name.now fallback.now in
+            Puts out.old (line (bytes "fallback") (numbers ++ part)) out.new }
+    {
+        let mut numbers = [0; 4];
+        let part = calls::attribute(
+            self.profile,
+            self.page,
+            self.table,
+            h as usize,
+            name,
+            fallback,
+            &mut numbers,
+        );
+        records::put_line(out, b"fallback", &numbers, part);
     }
 
     pub fn text(&self, h: u32, text: &mut [u8], out: &mut Writer)

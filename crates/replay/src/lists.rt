@@ -7,24 +7,15 @@ ghost use Rattle.rules.specs.Batch.{attributes_answer, attributes_buffer, names_
 ghost use Rattle.replay.specs.Printed.{Prints, PrintsBoth};
 
 use crate::document::Document;
+use crate::lending::nines;
 use lines::Writer;
 use records::{Number, Question};
 
 // The most handles of a list, and the most ends of names and of texts.
-pub const MOST: usize = 256;
-
-// How many handles the bytes of a question begin with.
-pub fn handle_count(question: Question) -> u32 {
-    match question {
-        Question::Attributes { handles, .. }
-        | Question::Texts { handles, .. }
-        | Question::Names { handles, .. } => handles,
-        _ => 0,
-    }
-}
+const MOST: usize = 256;
 
 // So many numbers, with which the bytes begin, and the bytes after them.
-pub fn leading<'a, 'b, T: Number>(
+fn leading<'a, 'b, T: Number>(
     body: &'a [u8],
     buffer: &'b mut [T],
     count: u32,
@@ -35,6 +26,43 @@ pub fn leading<'a, 'b, T: Number>(
 }
 
 impl Document<'_> {
+    // The line of the answer to a question, if it is about a list.
+    pub fn answer_of_list(
+        &self,
+        question: Question,
+        body: &[u8],
+        text: &mut [u8],
+        words: &mut [u32],
+        out: &mut Writer,
+    ) -> Option<()> {
+        let (mut list, mut places) = ([0; MOST], [0; MOST]);
+        match question {
+            Question::Attributes { handles, room } => {
+                let (handles, name) = leading(body, &mut list, handles)?;
+                self.attributes(handles, name, nines(words, room)?, out);
+            }
+            Question::Texts {
+                handles,
+                room,
+                ends,
+            } => {
+                let (handles, _) = leading(body, &mut list, handles)?;
+                self.texts(handles, nines(&mut places, ends)?, nines(text, room)?, out);
+            }
+            Question::Names {
+                handles,
+                room,
+                names,
+            } => {
+                let (handles, body) = leading(body, &mut list, handles)?;
+                let (ends, names) = leading(body, &mut places, names)?;
+                self.names(handles, names, ends, nines(words, room)?, out);
+            }
+            _ => return None,
+        }
+        Some(())
+    }
+
     pub fn attributes(&self, handles: &[u32], name: &[u8], words: &mut [u32], out: &mut Writer)
         ensures { let f = settings_of self.now.profile.now in
             let p = self.now.page.now in

@@ -7,15 +7,17 @@
 //   7 0 B 0   the bytes as a selector                                    8 v B 0   a query over the page
 //   9 h B v   a query below h                                            12 i w 0  word i of the table becomes w
 //   14 i b 0  byte i of the profile becomes b, from 0 to 255; it is tl's at the start
+//   15 h F 0  an attribute of h with a fallback: the first F of the bytes, the rest the name
+//   16 h s e  the same, the fallback the page's bytes from s to e (exclusive), the bytes the name
 // Of a list of N handles, with which the bytes begin, each a number with a space after it:
 //   10 N B 0  an attribute of each tag, the rest of the bytes its name
 //   11 N B E  the inner texts, and into E entries where each ends
 //   13 N B K  the attributes of each tag for K names: K numbers like the handles, where the names end, and their text
 // The list in the file stdin beside src/, and in stdout what is to be printed for it, were recorded by tools/compare/run
-// --record. Accepted questions to a page have tl 0.7.8's own answers, those to a list of handles one tag after the other. tl has no
-// views: in the finished one a model leaves out of tl's finds those that are not finished, and says which tag has an id. The words of
-// a table are the model's, once tl's nodes agree with it; refusals, what a buffer holds, the answers about a table that was changed,
-// and those under another profile than tl's follow the rules.
+// --record. Accepted questions to a page have tl 0.7.8's own answers, those to a list of handles one tag after the other, those with a
+// fallback tl's value, or the fallback where tl has none. tl has no views: in the finished one a model leaves out of tl's finds those that
+// are not finished, and says which tag has an id. The words of a table are the model's, once tl's nodes agree with it; refusals, what a
+// buffer holds, the answers about a table that was changed, and those under another profile than tl's follow the rules.
 
 #![tactic(auto)]
 

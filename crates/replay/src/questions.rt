@@ -11,7 +11,6 @@ ghost use Rattle.replay.specs.Printed.{Prints};
 
 use crate::document::Document;
 use crate::lending::nines;
-use crate::lists::{MOST, handle_count, leading};
 use lines::Writer;
 use profile::SIZE;
 use records::Question;
@@ -27,38 +26,18 @@ pub fn answer(
     words: &mut [u32],
     out: &mut Writer,
 ) -> Option<()> {
-    let document = Document {
-        profile: &*profile,
-        page,
-        table: &*table,
-    };
-    let (mut list, mut places) = ([0; MOST], [0; MOST]);
-    let (handles, body) = leading(body, &mut list, handle_count(question))?;
     match question {
         Question::Parse { words, .. } => parse(profile, page, nines(table, words)?, out),
         Question::SetWord { place, value } => set_word(table, place, value, out),
         Question::SetByte { place, value } => set_byte(profile, place, value, out),
-        Question::Range { handle } => document.range(handle, out),
-        Question::Attribute { handle } => document.attribute(handle, body, out),
-        Question::Text { handle, room } => document.text(handle, nines(text, room)?, out),
-        Question::Id { manner, view } => document.id(manner, view, body, out),
-        Question::Class { manner, room, view } => {
-            document.class(manner, view, body, nines(words, room)?, out)
-        }
         Question::Selector { room } => selector(body, nines(words, room)?, out),
-        Question::Query { view, room } => document.query(view, body, nines(words, room)?, out),
-        Question::Below { handle, room, view } => {
-            document.below(handle, view, body, nines(words, room)?, out)
-        }
-        Question::Attributes { room, .. } => {
-            document.attributes(handles, body, nines(words, room)?, out)
-        }
-        Question::Texts { room, ends, .. } => {
-            document.texts(handles, nines(&mut places, ends)?, nines(text, room)?, out)
-        }
-        Question::Names { room, names, .. } => {
-            let (ends, names) = leading(body, &mut places, names)?;
-            document.names(handles, names, ends, nines(words, room)?, out);
+        _ => {
+            let document = Document {
+                profile: &*profile,
+                page,
+                table: &*table,
+            };
+            document.answer(question, body, text, words, out)?;
         }
     }
     Some(())

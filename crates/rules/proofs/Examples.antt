@@ -69,7 +69,15 @@ examples =
     -- the last id counts, and without a value it counts as absent; of another name the first counts
     ∷ example (bytes "<p id=a id=b>") (own (id (Scan All) (bytes "b"))) ((0 ∷ 1 ∷ 0 ∷ []) ∷ [])
     ∷ example (bytes "<p id=a id>") (own (id (Scan All) (bytes "a"))) ((0 ∷ 0 ∷ 0 ∷ []) ∷ [])
-    ∷ example (bytes "<p k='1>' k=2>") (own (attribute 0 (bytes "k"))) ((0 ∷ 2 ∷ 6 ∷ 8 ∷ []) ∷ bytes "1>" ∷ [])
+    ∷ example (bytes "<p k='1>' k=2>") (own (attribute 0 (bytes "k") [])) ((0 ∷ 2 ∷ 6 ∷ 8 ∷ []) ∷ bytes "1>" ∷ [])
+    -- a fallback: where the name is absent or has no value, and not where the value is empty; a refusal hands back nothing
+    ∷ example (bytes "<i venue=XLON>") (own (attribute 0 (bytes "venue") (bytes "XNYS"))) ((0 ∷ 2 ∷ 9 ∷ 13 ∷ []) ∷ bytes "XLON" ∷ [])
+    ∷ example (bytes "<i venue=XLON>") (own (attribute 0 (bytes "venue") (bytes "XLON"))) ((0 ∷ 2 ∷ 9 ∷ 13 ∷ []) ∷ bytes "XLON" ∷ [])
+    ∷ example (bytes "<i>") (own (attribute 0 (bytes "venue") (bytes "XNYS"))) ((0 ∷ 0 ∷ 0 ∷ 0 ∷ []) ∷ bytes "XNYS" ∷ [])
+    ∷ example (bytes "<i venue>") (own (attribute 0 (bytes "venue") (bytes "XNYS"))) ((0 ∷ 1 ∷ 0 ∷ 0 ∷ []) ∷ bytes "XNYS" ∷ [])
+    ∷ example (bytes "<i venue=''>") (own (attribute 0 (bytes "venue") (bytes "XNYS"))) ((0 ∷ 2 ∷ 10 ∷ 10 ∷ []) ∷ [] ∷ [])
+    ∷ example (bytes "<i id>") (own (attribute 0 (bytes "id") (bytes "none"))) ((0 ∷ 0 ∷ 0 ∷ 0 ∷ []) ∷ bytes "none" ∷ [])
+    ∷ example (bytes "x<i>") (own (attribute 0 (bytes "venue") (bytes "XNYS"))) ((4 ∷ 0 ∷ 0 ∷ 0 ∷ []) ∷ [] ∷ [])
     -- a class in a scan once, closed once for each time, and not before its tag is closed
     ∷ example (bytes "<p class='a\tb a'></p><p class=a>") (own (class (Scan All) (bytes "a") 3)) ((0 ∷ 2 ∷ []) ∷ (0 ∷ 1 ∷ 0 ∷ []) ∷ [])
     ∷ example (bytes "<p class='a\tb a'></p><p class=a>") (own (class Closed (bytes "a") 2)) ((0 ∷ 2 ∷ []) ∷ (0 ∷ 0 ∷ []) ∷ [])

@@ -47,11 +47,12 @@ refused = (14 ∷ 0 ∷ []) ∷ (0 ∷ 0 ∷ []) ∷ []
 abbrev examples : List Example
 examples =
     -- a tab stands before an attribute and ends an unquoted value, and a space does neither
-    example_under tabs (tabbed (bytes "k=a b" ++ (9 ∷ bytes "c>"))) (own (attribute 0 (bytes "k"))) ((0 ∷ 2 ∷ 5 ∷ 8 ∷ []) ∷ bytes "a b" ∷ [])
-    ∷ example_under tabs (tabbed (bytes "k=a b" ++ (9 ∷ bytes "c>"))) (own (attribute 0 (bytes "c"))) ((0 ∷ 1 ∷ 0 ∷ 0 ∷ []) ∷ [] ∷ [])
-    ∷ example_under tl_profile (bytes "<p k=a b>") (own (attribute 0 (bytes "k"))) ((0 ∷ 2 ∷ 5 ∷ 6 ∷ []) ∷ bytes "a" ∷ [])
+    example_under tabs (tabbed (bytes "k=a b" ++ (9 ∷ bytes "c>"))) (own (attribute 0 (bytes "k") [])) ((0 ∷ 2 ∷ 5 ∷ 8 ∷ []) ∷ bytes "a b" ∷ [])
+    ∷ example_under tabs (tabbed (bytes "k=a b" ++ (9 ∷ bytes "c>"))) (own (attribute 0 (bytes "c") [])) ((0 ∷ 1 ∷ 0 ∷ 0 ∷ []) ∷ [] ∷ [])
+    ∷ example_under tl_profile (bytes "<p k=a b>") (own (attribute 0 (bytes "k") [])) ((0 ∷ 2 ∷ 5 ∷ 6 ∷ []) ∷ bytes "a" ∷ [])
     -- an unused white place does not make byte 0 white
-    ∷ example_under tabs (tabbed (bytes "k=a" ++ (0 ∷ bytes "b>"))) (own (attribute 0 (bytes "k"))) ((0 ∷ 2 ∷ 5 ∷ 8 ∷ []) ∷ (97 ∷ 0 ∷ 98 ∷ []) ∷ [])
+    ∷ example_under tabs (tabbed (bytes "k=a" ++ (0 ∷ bytes "b>"))) (own (attribute 0 (bytes "k") []))
+    ((0 ∷ 2 ∷ 5 ∷ 8 ∷ []) ∷ (97 ∷ 0 ∷ 98 ∷ []) ∷ [])
     -- class values are cut at a space still
     ∷ example_under tabs (tabbed (bytes "class='a b'>")) (own (class (Scan All) (bytes "b") 1)) ((0 ∷ 1 ∷ []) ∷ (0 ∷ []) ∷ [])
     -- `x` is void, and `br` is not; nor is the empty name, for an unused place

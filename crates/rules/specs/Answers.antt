@@ -91,12 +91,12 @@ module _ (f : Settings) (p ws : List ℕ) where
   unfoldable pub text_buffer : ℕ → List ℕ → List ℕ
   text_buffer h out = filled_by out (inner_text p ws h) (text_answer h (length out))
 
-  -- what the tag h holds for the attribute name k, and the part of the page that is handed back
+  -- what the tag h holds for the attribute name k, and the bytes that are handed back, with the fallback b
   unfoldable pub attribute_answer : ℕ → List ℕ → Result Held Refusal
   attribute_answer h k = asking_tag f p ws h (Ok (lookup f.white p (node_at ws h) k))
 
-  unfoldable pub attribute_part : ℕ → List ℕ → List ℕ
-  attribute_part h k = asked_part p (attribute_answer h k)
+  unfoldable pub attribute_part : ℕ → List ℕ → List ℕ → List ℕ
+  attribute_part h k b = asked_part p b (attribute_answer h k)
 
   -- the tag with the id k
   unfoldable pub id_answer : Manner → List ℕ → Result (Option ℕ) Refusal

@@ -19,9 +19,9 @@ pages =
     ∷ example (bytes "<!---->") rows (comment_row 0 0 0 0 ∷ [])
     ∷ example (bytes "<!--a-->") rows (comment_row 0 8 0 0 ∷ [])
     -- attributes `b` and `d`, without a value
-    ∷ example (bytes "<i b cd>") (own (attribute 0 (bytes "b"))) ((0 ∷ 1 ∷ 0 ∷ 0 ∷ []) ∷ [] ∷ [])
-    ∷ example (bytes "<i b cd>") (own (attribute 0 (bytes "d"))) ((0 ∷ 1 ∷ 0 ∷ 0 ∷ []) ∷ [] ∷ [])
-    ∷ example (bytes "<i b cd>") (own (attribute 0 (bytes "cd"))) ((0 ∷ 0 ∷ 0 ∷ 0 ∷ []) ∷ [] ∷ [])
+    ∷ example (bytes "<i b cd>") (own (attribute 0 (bytes "b") [])) ((0 ∷ 1 ∷ 0 ∷ 0 ∷ []) ∷ [] ∷ [])
+    ∷ example (bytes "<i b cd>") (own (attribute 0 (bytes "d") [])) ((0 ∷ 1 ∷ 0 ∷ 0 ∷ []) ∷ [] ∷ [])
+    ∷ example (bytes "<i b cd>") (own (attribute 0 (bytes "cd") [])) ((0 ∷ 0 ∷ 0 ∷ 0 ∷ []) ∷ [] ∷ [])
     -- scan 0, closed none
     ∷ example (bytes "<p id=a>") (own (id (Scan All) (bytes "a"))) ((0 ∷ 1 ∷ 0 ∷ []) ∷ [])
     ∷ example (bytes "<p id=a>") (own (id Closed (bytes "a"))) ((0 ∷ 0 ∷ 0 ∷ []) ∷ [])

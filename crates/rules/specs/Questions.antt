@@ -13,7 +13,7 @@ use Rattle.rules.specs.declared.View.{View}
 pub data Question : Type 0 where
   range : ℕ → Question
   text : ℕ → ℕ → Question
-  attribute : ℕ → List ℕ → Question
+  attribute : ℕ → List ℕ → List ℕ → Question
   id : Manner → List ℕ → Question
   class : Manner → List ℕ → ℕ → Question
   query : View → List ℕ → ℕ → Question
@@ -38,7 +38,7 @@ module _ (f : Settings) (p : List ℕ) where
   abbrev answer_of : List ℕ → Question → List (List ℕ)
   answer_of ws (range h) = ranged_numbers (range_answer f p ws h) ∷ []
   answer_of ws (text h n) = counted_numbers (text_answer f p ws h n) ∷ text_buffer f p ws h (zeros n) ∷ []
-  answer_of ws (attribute h k) = asked_numbers (attribute_answer f p ws h k) ∷ attribute_part f p ws h k ∷ []
+  answer_of ws (attribute h k b) = asked_numbers (attribute_answer f p ws h k) ∷ attribute_part f p ws h k b ∷ []
   answer_of ws (id m k) = found_numbers (id_answer f p ws m k) ∷ []
   answer_of ws (class m k n) = counted_numbers (class_answer f p ws m k n) ∷ class_buffer f p ws m k (zeros n) ∷ []
   answer_of ws (query v s n) = counted_numbers (query_answer f p ws v s n) ∷ query_buffer f p ws v s (zeros n) ∷ []

@@ -140,12 +140,13 @@ abbrev pub asked_numbers : Result Held Refusal → List ℕ
 asked_numbers (Ok v) = 0 ∷ held_numbers v
 asked_numbers (Err x) = number_of x ∷ 0 ∷ 0 ∷ 0 ∷ []
 
--- the part of the page that an attribute's answer hands back; empty without a value, and on a refusal
-abbrev pub held_part : List ℕ → Held → List ℕ
-held_part p Absent = []
-held_part p Bare = []
-held_part p (Value a e) = part p a e
+-- the bytes that an attribute's answer hands back: the value's part of the page p, or the whole fallback b where the name is absent or has no
+-- value; none on a refusal
+abbrev pub held_part : List ℕ → List ℕ → Held → List ℕ
+held_part p b Absent = b
+held_part p b Bare = b
+held_part p b (Value a e) = part p a e
 
-abbrev pub asked_part : List ℕ → Result Held Refusal → List ℕ
-asked_part p (Ok v) = held_part p v
-asked_part p (Err x) = []
+abbrev pub asked_part : List ℕ → List ℕ → Result Held Refusal → List ℕ
+asked_part p b (Ok v) = held_part p b v
+asked_part p b (Err x) = []

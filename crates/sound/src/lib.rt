@@ -214,17 +214,17 @@ pub fn table_sound(table: &[u32], len: usize) -> bool
 
 // ---- what every question is asked of
 
-// A page, and a table that is sound for it.
+// A page, and a table that is sound for it. Each is lent for its own time: a part of the page may be kept when the table is read into anew.
 #[derive(Clone, Copy)]
-pub struct Document<'a> {
-    pub page: &'a [u8],
-    pub table: &'a [u32],
+pub struct Document<'p, 't> {
+    pub page: &'p [u8],
+    pub table: &'t [u32],
     ghost fits: { sound (length page.now) table.now ≡ true },
 }
 
-impl<'a> Document<'a> {
+impl<'p, 't> Document<'p, 't> {
     // The page with the table, if that is sound for it. Not by `then_some`, which would make the document before the test.
-    pub fn new(page: &'a [u8], table: &'a [u32]) -> Option<Document<'a>>
+    pub fn new(page: &'p [u8], table: &'t [u32]) -> Option<Document<'p, 't>>
         ensures sound { IsSome result ↔ (sound (length page.now) table.now ≡ true) }
         ensures lent { IfSome result (λ d. (d.page.now ≡ page.now) × (d.table.now ≡ table.now)) }
     {

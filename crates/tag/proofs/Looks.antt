@@ -6,7 +6,7 @@ use Prim.Native.Nat.{ℕ, ◌≤◌}
 use native.Mathlib.Omega.{arith}
 use lib.ListN.{length}
 use lib.Seq.{length-take-le}
-use Rattle.rules.specs.Lookup.{lookup, up_to}
+use Rattle.rules.specs.Lookup.{lookup, lookup_from, up_to}
 use Rattle.rules.specs.declared.Node.{Node}
 use Rattle.rules.specs.declared.Held.{Held}
 use Rattle.rules.proofs.Lookup.{lookup_inside}
@@ -16,9 +16,10 @@ module _ (p : List ℕ) (n : Node) (inside : n.opened ≤ length p) where
   pub length_up_to : length (up_to p n) ≡ n.opened
   length_up_to = length-take-le n.opened p inside
 
-  -- r was looked up in that part
-  pub looked : (white : ℕ → Bool) (name : List ℕ) (r : Held) → r ≡ lookup white p n name → Looked white p n name r
-  looked white name r is =
+  -- r was looked up in that part, which is q
+  pub looked : {q name : List ℕ} {white : ℕ → Bool} {r : Held} → q ≡ up_to p n → r ≡ lookup_from white q n.stop name → Looked white p n name r
+  looked {name = name} {white = white} {r = r} cut looked_in =
+      let is : r ≡ lookup white p n name = rw cut at looked_in in
       record {
         is = is;
         within =

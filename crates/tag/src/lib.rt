@@ -11,5 +11,5 @@ mod opening;
 pub use below::{inner_text, range, text_length, text_of};
 pub use buffer::copy;
 pub use iter::{Attributes, next_attribute};
-pub use lookup::{get, held, is_last, is_named};
+pub use lookup::{held, is_last, is_named};
 pub use opening::Tag;

@@ -94,7 +94,7 @@ pub fn is_last(name: &[u8]) -> bool
 }
 
 // Attributes::get: what a tag whose name stops at `stop` holds for the name, on a page that ends at its opening `>`.
-pub fn get(t: &Marks, page: &[u8], stop: usize, name: &[u8]) -> Held
+pub(crate) fn get(t: &Marks, page: &[u8], stop: usize, name: &[u8]) -> Held
     requires { stop ≤ length page.now }
     ensures { result ≡ lookup_from (white_in t.now) page.now stop name.now }
 {

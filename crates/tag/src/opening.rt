@@ -7,6 +7,7 @@ ghost use Rattle.rules.specs.Lookup.{up_to};
 ghost use Rattle.rules.specs.Sound.{is_tag};
 ghost use Rattle.rules.specs.Table.{node_at};
 ghost use Rattle.rules.specs.Query.{name_of};
+ghost use Rattle.rules.specs.Refusals.{held_part};
 ghost use Rattle.scan.specs.Marks.{white_in};
 ghost use Rattle.tag.specs.Tag.{Looked};
 
@@ -26,7 +27,7 @@ pub struct Tag<'a> {
 
 impl<'a> Tag<'a> {
     // The tag of a document with that handle.
-    pub fn of(d: &Document<'a>, h: usize) -> Tag<'a>
+    pub fn of(d: &Document<'a, '_>, h: usize) -> Tag<'a>
         requires { is_tag d.now.table.now h ≡ true }
         ensures { (result.page.now ≡ d.now.page.now) × (result.node ≡ node_at d.now.table.now h) }
     {
@@ -44,26 +45,40 @@ impl<'a> Tag<'a> {
         scan::part(self.page, self.node.name as usize, self.node.stop as usize)
     }
 
-    // Its attributes, in order: the page ends for them where its opening does.
+    // The page as its attributes are read: it ends where the opening does.
+    #[inline(always)]
+    fn up_to(&self) -> &'a [u8]
+        ensures { result.now ≡ up_to self.now.page.now self.now.node }
+    {
+        let opened = self.node.opened as usize;
+        &self.page[..opened]
+    }
+
+    // Its attributes, in order.
     #[inline]
     pub fn attributes(&self, t: &'a Marks) -> Attributes<'a>
         ensures { (result.marks.now ≡ t.now) × (result.page.now ≡ up_to self.now.page.now self.now.node) × (result.at ≡ self.now.node.stop) }
     {
-        let opened = self.node.opened as usize;
         Attributes {
             marks: t,
-            page: &self.page[..opened],
+            page: self.up_to(),
             at: self.node.stop as usize,
         }
     }
 
-    // What it holds for the name.
+    // The lookup of an attribute, by which all go who want one: the value's part of the page, or the whole fallback where the name is absent
+    // or has no value. Which of the three it was stands in `held`: an empty part alone would not say it.
     #[inline(always)]
-    pub fn attribute(&self, t: &Marks, name: &[u8]) -> Held
-        ensures { Looked (white_in t.now) self.now.page.now self.now.node name.now result }
+    #[tactic(auto, using(crate::proofs::Looks::looked, crate::proofs::Looks::length_up_to))]
+    pub fn attribute(&self, t: &Marks, name: &[u8], fallback: &'a [u8], held: &mut Held) -> &'a [u8]
+        ensures held { Looked (white_in t.now) self.now.page.now self.now.node name.now held.new }
+        ensures part { result.now ≡ held_part self.now.page.now fallback.now held.new }
     {
-        let attributes = self.attributes(t);
-        get(t, attributes.page, attributes.at, name)
+        *held = get(t, self.up_to(), self.node.stop as usize, name);
+        match *held {
+            Held::Absent | Held::Bare => fallback,
+            Held::Value(start, end) => scan::part(self.page, start, end),
+        }
     }
 
     // How many bytes its opening has after the name.

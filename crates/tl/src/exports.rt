@@ -50,7 +50,7 @@ pub fn tl_attribute(
     ensures { let held = attribute_answer (settings_of profile.now) page.now table.now h name.now in
         (result ∷ answer.new) ≡ asked_numbers held }
 {
-    let held = calls::attribute(profile, page, table, h, name);
+    let held = calls::attribute_places(profile, page, table, h, name);
     leave(held.map(Held::numbers), answer)
 }
 

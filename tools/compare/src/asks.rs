@@ -14,6 +14,9 @@ const LOOKUPS: usize = 120;
 /// On pages of up to so many bytes the place after each opening `>` is put to tl; elsewhere that of one tag.
 const ALL_OPENINGS: usize = 12;
 
+/// A fallback of a lookup that no page holds.
+pub const VENUE: &[u8] = b"XNYS";
+
 #[derive(Default)]
 pub struct Asks {
     pub tags: Vec<usize>,
@@ -75,7 +78,7 @@ impl Asks {
         match question {
             Question::Range(_) | Question::Text(_) => asks.tags = tags,
             Question::Opening(_) => asks.openings = tags,
-            Question::Attribute(_, name) => {
+            Question::Attribute(_, name) | Question::AttributeOr(_, name) => {
                 asks.attributes = tags.into_iter().map(|tag| (tag, name.clone())).collect();
             }
             Question::Id(_, id) => asks.ids.push(id.clone()),

@@ -4,6 +4,7 @@
 //! which is the paper's but for the departures of docs/DIFFERENCES.md. So library and tl agree wherever no departure is
 //! counted, and where one is counted both are what the list says. All this is under tl's profile and in the view of all nodes; under
 //! others, and in the finished view, there is the model alone.
+mod fallbacks;
 mod lists;
 #[cfg(test)]
 mod tests;
@@ -12,7 +13,7 @@ use crate::asks::Asks;
 use crate::ffi::LentProfile;
 use crate::findings::{Departure, Difference, Findings};
 use crate::model::{
-    self, tl_profile, Asked, Manner, Piece, Profile, ProfileBytes, Reading, Row, View, Way,
+    self, tl_profile, Asked, Held, Manner, Piece, Profile, ProfileBytes, Reading, Row, View, Way,
     MANNERS, PAPER, SELECTOR_LIMIT, TL, TL_BYTES, VIEWS,
 };
 use crate::numbers::{self, Numbers};
@@ -239,7 +240,7 @@ struct Run<'p, 'r> {
     found: Findings,
 }
 
-impl Run<'_, '_> {
+impl<'p> Run<'p, '_> {
     /// What the library should say where the rules say `answer`.
     fn expect<T>(&self, answer: T) -> Answer<T> {
         match self.refusal {
@@ -456,7 +457,7 @@ impl Run<'_, '_> {
         paper: &T,
         departure: Departure,
         answer: impl Fn(&Self, Way) -> T,
-        said: impl Fn(&TlPage) -> T,
+        said: impl Fn(&TlPage<'p>) -> T,
     ) -> Option<(T, T)> {
         let said = said(self.tl.as_ref()?);
         if !self.departs {
@@ -480,7 +481,8 @@ impl Run<'_, '_> {
             |tl| tl.attribute(tag, name),
         );
         let ask = || Question::Attribute(tag, name.to_vec());
-        check(&mut self.found, ask, ours, &paper, tl);
+        check(&mut self.found, ask, ours.clone(), &paper, tl);
+        self.attribute_or(tag, name, ours, Held::or);
     }
 
     fn id(&mut self, manner: Manner, id: &[u8]) {

@@ -68,6 +68,10 @@ pub struct Covered {
     pub densest: u64,
     /// tags in which a name other than `id` and `class` is repeated
     pub repeating_tags: u64,
+    /// lookups with fallbacks; those that hand them back, and those that hand back an empty value
+    pub with_fallbacks: u64,
+    pub fell_back: u64,
+    pub empty_values: u64,
     /// tags of pages that were read, by how they ended
     pub ended: [u64; ENDINGS.len()],
     /// answers to lookups in the scan and to queries, by their view
@@ -85,6 +89,9 @@ impl Covered {
         self.not_utf8 += more.not_utf8;
         self.densest += more.densest;
         self.repeating_tags += more.repeating_tags;
+        self.with_fallbacks += more.with_fallbacks;
+        self.fell_back += more.fell_back;
+        self.empty_values += more.empty_values;
         for (sum, more) in self.ended.iter_mut().zip(more.ended) {
             *sum += more;
         }

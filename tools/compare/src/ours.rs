@@ -80,7 +80,7 @@ pub struct Ours<'p> {
     pub table: &'p [u32],
 }
 
-impl Ours<'_> {
+impl<'p> Ours<'p> {
     pub fn range(&self, handle: usize) -> Answer<Option<(usize, usize)>> {
         match plain(ffi::range(self.profile, self.page, self.table, handle))? {
             [0, 0, 0] => Ok(None),
@@ -105,6 +105,14 @@ impl Ours<'_> {
             handle,
             name,
         ))?)
+    }
+
+    /// The value, by the places that the answer gives.
+    pub fn value(&self, held: Held) -> Option<&'p [u8]> {
+        match held {
+            Held::Value((start, end)) => Some(&self.page[start..end]),
+            _ => None,
+        }
     }
 
     pub fn by_id(&self, numbers: Numbers, id: &[u8]) -> Answer<Option<usize>> {

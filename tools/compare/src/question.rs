@@ -14,6 +14,8 @@ pub enum Question {
     Range(usize),
     Text(usize),
     Attribute(usize, Vec<u8>),
+    /// the same with some fallbacks
+    AttributeOr(usize, Vec<u8>),
     Id(Numbers, Vec<u8>),
     Class(Numbers, Vec<u8>),
     Selector,
@@ -37,6 +39,7 @@ impl Question {
     pub fn word(&self) -> Option<&[u8]> {
         match self {
             Question::Attribute(_, word)
+            | Question::AttributeOr(_, word)
             | Question::Id(_, word)
             | Question::Class(_, word)
             | Question::Query(_, word)
@@ -52,6 +55,7 @@ impl Question {
         let word = word.to_vec();
         match self {
             Question::Attribute(tag, _) => Question::Attribute(*tag, word),
+            Question::AttributeOr(tag, _) => Question::AttributeOr(*tag, word),
             Question::Id(numbers, _) => Question::Id(*numbers, word),
             Question::Class(numbers, _) => Question::Class(*numbers, word),
             Question::Query(view, _) => Question::Query(*view, word),
@@ -78,6 +82,9 @@ impl fmt::Display for Question {
             Question::Range(h) => write!(f, "range of {h}"),
             Question::Text(h) => write!(f, "inner text of {h}"),
             Question::Attribute(h, name) => write!(f, "attribute `{}` of {h}", text(name)),
+            Question::AttributeOr(h, name) => {
+                write!(f, "attribute `{}` of {h}, with fallbacks", text(name))
+            }
             Question::Id(numbers, id) => write!(f, "id `{}`, {numbers}", text(id)),
             Question::Class(numbers, class) => write!(f, "class `{}`, {numbers}", text(class)),
             Question::Selector => write!(f, "selector"),

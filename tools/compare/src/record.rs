@@ -3,9 +3,10 @@
 //!
 //! Each answer to an accepted question about a page is tl's, of a list of handles tl's for one tag after the other. tl keeps no
 //! table, so the words of one are the model's, once tl's nodes and the model's are the same. Nor has it views: in the finished one
-//! the model leaves out of tl's finds those that are not finished, and says which tag has an id. Refusals, what a buffer holds after
-//! a call, and what is answered about a table that no reading made follow the paper. `replay` starts with tl's profile; the last
-//! questions are asked under others, and follow the paper too.
+//! the model leaves out of tl's finds those that are not finished, and says which tag has an id. Nor fallbacks: where tl has no value
+//! the model hands back the fallback. Refusals, what a buffer holds after a call, and what is answered about a table that no reading
+//! made follow the paper. `replay` starts with tl's profile; the last questions are asked under others, and follow the paper too.
+mod fallbacks;
 mod lists;
 mod profiles;
 
@@ -37,6 +38,8 @@ struct Recording {
     asked: Vec<u8>,
     printed: String,
     records: usize,
+    /// how many bytes the page has that is asked about
+    page_bytes: usize,
 }
 
 type Answer = Result<Vec<usize>, usize>;
@@ -55,6 +58,10 @@ impl Recording {
         }
         self.printed.push('\n');
         self.records += 1;
+        // a page, `y` times over
+        if operation == 1 {
+            self.page_bytes = bytes.len() * y;
+        }
     }
 
     /// A question that fills a buffer of `room` entries, `each` for one of what is counted.
@@ -204,6 +211,7 @@ fn questions(to: &mut Recording, page: &[u8], random: &mut Random) {
         let said = [&[0], &held[..]].concat();
         to.record([3, *tag, 0, 0], name, "attribute", &said);
     }
+    fallbacks::questions(to, &asked, &tl, &asks);
     let sides = Sides {
         asked: &asked,
         tl: &tl,
@@ -299,6 +307,7 @@ fn all_refused(to: &mut Recording, number: usize) {
 fn one_refused(to: &mut Recording, number: usize) {
     to.record([2, 0, 0, 0], b"", "range", &[number, 0, 0, 0]);
     to.record([3, 0, 0, 0], b"k", "attribute", &[number, 0, 0, 0]);
+    fallbacks::refused(to, 0, number);
     to.list(([4, 0, 3, 0], b"", "text"), 3, 1, &Err(number));
     for ([manner, view], _) in MANNERS {
         to.record([5, manner, view, 0], b"k", "id", &[number, 0, 0]);
@@ -533,6 +542,7 @@ pub fn record(folder: &Path, seed: u64) -> io::Result<()> {
     ends_in_other_orders(&mut to);
     ended_in_other_ways(&mut to);
     views_by_other_numbers(&mut to);
+    fallbacks::every_kind(&mut to);
     profiles::questions_under_others(&mut to);
     writeln!(to.printed, "records {}", to.records).expect("a string takes it");
     fs::write(folder.join("stdin"), &to.asked)?;

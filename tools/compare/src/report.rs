@@ -177,6 +177,10 @@ impl Covered {
             "{:>12} tags with a repeated attribute name",
             self.repeating_tags
         );
+        println!(
+            "{:>12} of the answers are to a lookup with fallbacks: {} hand them back, {} an empty value",
+            self.with_fallbacks, self.fell_back, self.empty_values
+        );
         println!("{:>12} pages that are not UTF-8", self.not_utf8);
         println!(
             "{:>12} pages with the most nodes that so many bytes may have",

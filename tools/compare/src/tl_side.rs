@@ -109,6 +109,15 @@ impl<'p> TlPage<'p> {
         }
     }
 
+    /// The value's bytes; they live as long as page and name, since tl takes both for one lifetime.
+    pub fn value<'n>(&self, handle: usize, name: &'n [u8]) -> Option<&'n [u8]>
+    where
+        'p: 'n,
+    {
+        let value = self.tag(handle).attributes().get(name).flatten()?;
+        value.as_bytes_borrowed()
+    }
+
     /// What each tag of a list holds for each name. tl has no call on a list, so it is asked tag by tag.
     pub fn attributes(&self, tags: &[u32], names: &[&[u8]]) -> Vec<Held> {
         let of_tag = |&tag: &u32| {

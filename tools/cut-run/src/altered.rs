@@ -29,7 +29,17 @@ pub enum Alteration {
     ValueForgotten,
     ValueShortened,
     AbsentMadeBare,
+    BareMadeAbsent,
+    BareMadeEmpty,
     AttributeRefused,
+    /// handed back although there is a value, or only where it is empty
+    FallbackForValue,
+    FallbackForEmpty,
+    /// no byte of the fallback is handed back, or all but the last one: of any, or only of one that lies in the page
+    NothingForAbsent,
+    NothingForBare,
+    FallbackShortened,
+    FallbackInPageShortened,
     FindDropped,
     FindInvented,
     FindsSwapped,
@@ -69,7 +79,7 @@ pub const OF_FINISHED: [Alteration; 3] = [
     Alteration::FinishedOtherwise,
 ];
 
-pub const ALTERATIONS: [Alteration; 29] = [
+pub const ALTERATIONS: [Alteration; 37] = [
     Alteration::ReadingRefused,
     Alteration::ReadOneByteLess,
     Alteration::LastTagDropped,
@@ -83,7 +93,15 @@ pub const ALTERATIONS: [Alteration; 29] = [
     Alteration::ValueForgotten,
     Alteration::ValueShortened,
     Alteration::AbsentMadeBare,
+    Alteration::BareMadeAbsent,
+    Alteration::BareMadeEmpty,
     Alteration::AttributeRefused,
+    Alteration::FallbackForValue,
+    Alteration::FallbackForEmpty,
+    Alteration::NothingForAbsent,
+    Alteration::NothingForBare,
+    Alteration::FallbackShortened,
+    Alteration::FallbackInPageShortened,
     Alteration::FindDropped,
     Alteration::FindInvented,
     Alteration::FindsSwapped,
@@ -348,6 +366,8 @@ impl Reader for Altered {
                 Ok(HeldAt::Value(start, end - 1))
             }
             (Alteration::AbsentMadeBare, Ok(HeldAt::Absent)) => Ok(HeldAt::Bare),
+            (Alteration::BareMadeAbsent, Ok(HeldAt::Bare)) => Ok(HeldAt::Absent),
+            (Alteration::BareMadeEmpty, Ok(HeldAt::Bare)) => Ok(HeldAt::Value(0, 0)),
             (Alteration::AttributeRefused, Ok(_)) => Err(Refusal::NotATag),
             (Alteration::AttributeByTls, _) => {
                 Compiled.attribute(asked.by(&Profile::TL), handle, name)
@@ -358,6 +378,34 @@ impl Reader for Altered {
             self.take();
         }
         altered
+    }
+
+    fn handed_back<'f>(
+        &self,
+        page: &'f [u8],
+        held: Result<HeldAt, Refusal>,
+        fallback: &'f [u8],
+    ) -> Option<&'f [u8]> {
+        let part = Compiled.handed_back(page, held, fallback);
+        let shortened = &fallback[..fallback.len().saturating_sub(1)];
+        let in_page = page.as_ptr_range().contains(&fallback.as_ptr());
+        let altered = match (self.alteration, held) {
+            (Alteration::FallbackForValue, Ok(HeldAt::Value(..))) => fallback,
+            (Alteration::FallbackForEmpty, Ok(HeldAt::Value(start, end))) if start == end => {
+                fallback
+            }
+            (Alteration::NothingForAbsent, Ok(HeldAt::Absent))
+            | (Alteration::NothingForBare, Ok(HeldAt::Bare)) => &page[..0],
+            (Alteration::FallbackShortened, Ok(HeldAt::Absent | HeldAt::Bare)) => shortened,
+            (Alteration::FallbackInPageShortened, Ok(HeldAt::Absent | HeldAt::Bare)) if in_page => {
+                shortened
+            }
+            _ => return part,
+        };
+        if Some(altered) != part {
+            self.take();
+        }
+        Some(altered)
     }
 
     fn class(

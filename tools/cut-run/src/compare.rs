@@ -10,6 +10,7 @@ use tl_rattle::calls::HeldAt;
 use tl_rattle::{max_nodes, words_for, Profile, Refusal, View, HEADER_WORDS, ROW_WORDS};
 
 use crate::ended::EndedCounts;
+use crate::fallback::{fallbacks, handed_back, same, FallbackCounts};
 use crate::lookup::{alike, lent, Answer, Lookup};
 use crate::questions::Questions;
 use crate::reader::{Asked, Reader};
@@ -28,9 +29,9 @@ pub enum Clause {
     Parent,
     /// words 3 to 5
     Places,
-    /// what a tag answers for an attribute name, with the value's places
+    /// what a tag answers for an attribute name: which of the three is held, with the value's places
     Attribute,
-    /// the value's bytes
+    /// and the bytes handed back, with every fallback
     Value,
     Query,
     Below,
@@ -91,6 +92,8 @@ pub struct Counts {
     pub absent: usize,
     pub bare: usize,
     pub values: usize,
+    /// with which the bytes handed back were compared
+    pub fallbacks: FallbackCounts,
     pub queries: usize,
     pub queries_below: usize,
     pub too_long: usize,
@@ -446,7 +449,7 @@ impl<'p, R: Reader> Whole<'p, R> {
         }
     }
 
-    /// Part 2: the same answer for every attribute name, and the same value bytes.
+    /// Part 2: the same answer for every attribute name, and with every fallback the same bytes handed back.
     fn attributes<B: Reader>(
         &mut self,
         counts: &mut Counts,
@@ -454,34 +457,71 @@ impl<'p, R: Reader> Whole<'p, R> {
         reader: &B,
         tags: &[u32],
     ) {
-        let n = asked.page.len();
-        let questions = self.questions;
         for &h in tags {
-            for (number, name) in questions.names.iter().enumerate() {
-                let held = reader.attribute(asked, h, name);
-                let whole = self.held(h, number);
-                match held {
-                    Ok(HeldAt::Absent) => counts.absent += 1,
-                    Ok(HeldAt::Bare) => counts.bare += 1,
-                    Ok(HeldAt::Value(..)) => counts.values += 1,
-                    Err(_) => {}
-                }
-                if held != whole || held.is_err() {
-                    self.differ(counts, Clause::Attribute, n, Some(h), || {
-                        format!("{} holds {held:?} and {whole:?}", name.escape_ascii())
-                    });
-                }
-                if let (Ok(HeldAt::Value(start, end)), Ok(HeldAt::Value(from, to))) = (held, whole)
-                {
-                    let value = asked.page.get(start..end);
-                    if value.is_none() || value != self.page.get(from..to) {
-                        self.differ(counts, Clause::Value, n, Some(h), || {
-                            format!("{} has other bytes", name.escape_ascii())
-                        });
-                    }
-                }
+            for number in 0..self.questions.names.len() {
+                self.attribute(counts, asked, reader, h, number);
             }
         }
+    }
+
+    /// Of a tag, for the questions' name of this number.
+    fn attribute<B: Reader>(
+        &mut self,
+        counts: &mut Counts,
+        asked: Asked<'_>,
+        reader: &B,
+        h: u32,
+        number: usize,
+    ) {
+        let n = asked.page.len();
+        let name = &self.questions.names[number];
+        let held = reader.attribute(asked, h, name);
+        let whole = self.held(h, number);
+        match held {
+            Ok(HeldAt::Absent) => counts.absent += 1,
+            Ok(HeldAt::Bare) => counts.bare += 1,
+            Ok(HeldAt::Value(..)) => counts.values += 1,
+            Err(_) => {}
+        }
+        if held != whole || held.is_err() {
+            self.differ(counts, Clause::Attribute, n, Some(h), || {
+                format!("{} holds {held:?} and {whole:?}", name.escape_ascii())
+            });
+        }
+        if let Some(what) = self.handed_back(counts, asked, reader, (held, whole)) {
+            self.differ(counts, Clause::Value, n, Some(h), || {
+                format!("{} hands back {what}", name.escape_ascii())
+            });
+        }
+    }
+
+    /// With every fallback that is lent the same bytes are handed back; or what with the first where they are not.
+    fn handed_back<B: Reader>(
+        &self,
+        counts: &mut Counts,
+        asked: Asked<'_>,
+        reader: &B,
+        (held, whole): (Result<HeldAt, Refusal>, Result<HeldAt, Refusal>),
+    ) -> Option<String> {
+        // a copy, so that this fallback lies elsewhere than the value
+        let value = match whole {
+            Ok(HeldAt::Value(..)) => handed_back(self.page, whole, b"").map(Vec::from),
+            _ => None,
+        };
+        let lent = fallbacks(asked.page, value.as_deref());
+        for (sort, fallback) in lent.into_iter().enumerate() {
+            let Some(fallback) = fallback else { continue };
+            counts.fallbacks.observe(sort);
+            let one = reader.handed_back(asked.page, held, fallback);
+            let other = self.reader.handed_back(self.page, whole, fallback);
+            if !same(one, other) {
+                let said = |part: Option<&[u8]>| part.map(|part| part.escape_ascii().to_string());
+                let (one, other) = (said(one), said(other));
+                let fallback = fallback.escape_ascii();
+                return Some(format!("{one:?} and {other:?} with \"{fallback}\""));
+            }
+        }
+        None
     }
 
     /// Request U14: each call gives the text by its own table; the beginning's is a beginning of the whole page's, and
@@ -698,15 +738,19 @@ mod tests {
         in_view: false,
     };
 
-    fn at_every_cut(page: &[u8]) -> Counts {
+    fn asked_at_every_cut(page: &[u8], questions: &Questions) -> Counts {
         let tl = Profile::TL;
         let mut counts = Counts::default();
-        let mut whole = Whole::new(&tl, page, &ONLY_TEXTS, &Compiled, &mut counts);
+        let mut whole = Whole::new(&tl, page, questions, &Compiled, &mut counts);
         for n in 0..=page.len() {
             whole.cut(n, &Compiled, &mut Random::for_page(0, 0), &mut counts);
         }
         assert_eq!(counts.differences, 0);
         counts
+    }
+
+    fn at_every_cut(page: &[u8]) -> Counts {
+        asked_at_every_cut(page, &ONLY_TEXTS)
     }
 
     /// A page's texts at every cut: equal by the rule, before an unfinished comment, equal besides, begun.
@@ -731,6 +775,22 @@ mod tests {
         assert_eq!(texts(b"<a>x<!--y-->"), [1, 0, 8, 1]);
         // an unfinished one ends where it starts
         assert_eq!(texts(b"<a>x<!--y"), [6, 6, 0, 1]);
+    }
+
+    #[test]
+    fn fallbacks_are_of_every_sort() {
+        let questions = Questions {
+            names: [&b"k"[..], b"j", b"x"].map(Vec::from).into(),
+            ..ONLY_TEXTS.clone()
+        };
+        // the tag is there at two cuts
+        let counts = asked_at_every_cut(b"<a k=v j>x", &questions);
+        assert_eq!([counts.absent, counts.bare, counts.values], [2; 3]);
+        assert_eq!(
+            counts.fallbacks.to_string(),
+            "26: empty 6, outside of the page 6, equal to the value 2, a part of the beginning 6, \
+             the beginning itself 6"
+        );
     }
 
     #[test]

@@ -6,6 +6,7 @@ mod altered;
 mod case;
 mod compare;
 mod ended;
+mod fallback;
 mod lookup;
 mod pages;
 mod profiles;

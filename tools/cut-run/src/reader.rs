@@ -3,6 +3,8 @@
 use tl_rattle::calls::{self, HeldAt};
 use tl_rattle::{Manner, Profile, Refusal, View};
 
+use crate::fallback;
+
 pub trait Reader {
     fn parse(&self, profile: &Profile, page: &[u8], table: &mut [u32]) -> Result<usize, Refusal> {
         calls::parse(profile, page, table)
@@ -11,6 +13,16 @@ pub trait Reader {
     fn attribute(&self, asked: Asked<'_>, handle: u32, name: &[u8]) -> Result<HeldAt, Refusal> {
         let (profile, page, table) = asked.all();
         calls::attribute(profile, page, table, handle as usize, name)
+    }
+
+    /// The bytes that a page hands back with a fallback, by what is held there.
+    fn handed_back<'f>(
+        &self,
+        page: &'f [u8],
+        held: Result<HeldAt, Refusal>,
+        fallback: &'f [u8],
+    ) -> Option<&'f [u8]> {
+        fallback::handed_back(page, held, fallback)
     }
 
     fn class(

@@ -139,6 +139,10 @@ fn print(counts: &Counts) {
         counts.values
     );
     println!(
+        "bytes handed back, each with a fallback {}",
+        counts.fallbacks
+    );
+    println!(
         "queries over the page {}: too long {}, cannot be read {}; finds {}",
         counts.queries, counts.too_long, counts.unread, counts.finds
     );

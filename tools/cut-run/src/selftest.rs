@@ -44,11 +44,19 @@ fn shows_in(alteration: Alteration) -> &'static [Clause] {
             Clause::Places,
         ],
         Alteration::LastTooLow | Alteration::LastTooHigh => &[Clause::Descendants],
-        Alteration::ValueForgotten
-        | Alteration::ValueShortened
-        | Alteration::AbsentMadeBare
+        Alteration::AbsentMadeBare
+        | Alteration::BareMadeAbsent
         | Alteration::AttributeRefused
         | Alteration::AttributeByTls => &[Clause::Attribute],
+        Alteration::ValueForgotten | Alteration::ValueShortened | Alteration::BareMadeEmpty => {
+            &[Clause::Attribute, Clause::Value]
+        }
+        Alteration::FallbackForValue
+        | Alteration::FallbackForEmpty
+        | Alteration::NothingForAbsent
+        | Alteration::NothingForBare
+        | Alteration::FallbackShortened
+        | Alteration::FallbackInPageShortened => &[Clause::Value],
         Alteration::FindDropped
         | Alteration::FindInvented
         | Alteration::FindsSwapped
@@ -110,12 +118,24 @@ impl Seen {
     }
 }
 
+/// Whether a clause is on what a tag holds for a name.
+fn of_names(clause: &Clause) -> bool {
+    [Clause::Attribute, Clause::Value].contains(clause)
+}
+
 /// Of the questions those by which an alteration can be seen: of one in the finished view its own lookup, of one that shows in
-/// the rows alone none, of any other all.
+/// the rows alone none, of one in what a tag holds the names, of any other all.
 fn asked_of(alteration: Alteration, questions: Questions) -> Questions {
     let asking = match alteration {
         Alteration::InView(asking, _) => Some(asking),
         _ if shows_in(alteration) == [Clause::StaysRow] => None,
+        _ if shows_in(alteration).iter().all(of_names) => {
+            return Questions {
+                classes: Vec::new(),
+                selectors: Vec::new(),
+                ..questions
+            }
+        }
         _ => return questions,
     };
     let mut questions = Questions {

@@ -1,5 +1,6 @@
-//! Whether a wrong rule of what the finished view shows is found. The model gets it with changed rows, which its own rule then takes
-//! for what they are not; the library keeps the page's table.
+//! Whether a wrong rule is found of what the finished view shows, and of what a lookup with a fallback hands back. For the first the
+//! model gets changed rows, which its own rule then takes for what they are not; the library keeps the page's table.
+use super::fallbacks::Rule;
 use super::*;
 use crate::model::{Ended, Kind};
 use crate::pages;
@@ -37,6 +38,18 @@ fn as_finished(row: &mut Row, kind: Kind) {
 
 /// The questions on which library and model differ, if the model has changed rows.
 fn differing(page: &[u8], change: Change, asks: impl FnOnce(&Asked) -> Asks) -> Vec<Question> {
+    differing_in(page, change, |run| {
+        let asks = asks(&run.asked);
+        for manner in MANNERS {
+            run.lookups(manner, &asks);
+        }
+        for view in VIEWS {
+            run.queries(view, &asks);
+        }
+    })
+}
+
+fn differing_in(page: &[u8], change: Change, ask: impl FnOnce(&mut Run)) -> Vec<Question> {
     let reading = model::read(page, tl_profile());
     let table = model::words_of(page.len(), &reading);
     let mut rows = reading.rows.clone();
@@ -55,13 +68,7 @@ fn differing(page: &[u8], change: Change, asks: impl FnOnce(&Asked) -> Asks) -> 
         random: &mut Random::new(page.len() as u64),
         found: Findings::default(),
     };
-    let asks = asks(&run.asked);
-    for manner in MANNERS {
-        run.lookups(manner, &asks);
-    }
-    for view in VIEWS {
-        run.queries(view, &asks);
-    }
+    ask(&mut run);
     let differences = run.found.differences.into_iter();
     differences.map(|difference| difference.question).collect()
 }
@@ -149,5 +156,84 @@ fn wrong_rules_show_on_random_pages() {
     assert_eq!(shown(RIGHT), 0);
     for (number, change) in WRONG.into_iter().enumerate() {
         assert!(shown(change) > 0, "{number}");
+    }
+}
+
+/// Each hands back something else: the fallback for an empty value, nothing without a value, nothing where the name is absent, the
+/// value alone, the fallback alone, and the fallback without its last byte.
+const WRONG_FALLBACKS: [Rule; 6] = [
+    |held, page, fallback| match held {
+        Held::Value((start, end)) if start == end => fallback,
+        _ => held.or(page, fallback),
+    },
+    |held, page, fallback| match held {
+        Held::Bare => b"",
+        _ => held.or(page, fallback),
+    },
+    |held, page, fallback| match held {
+        Held::Absent => b"",
+        _ => held.or(page, fallback),
+    },
+    |held, page, _| held.or(page, b""),
+    |_, _, fallback| fallback,
+    |held, page, fallback| held.or(page, &fallback[..fallback.len().saturating_sub(1)]),
+];
+
+/// The lookups with fallbacks on which library and model differ, if the model goes by this rule.
+fn differing_by(page: &[u8], rule: Rule, asks: impl FnOnce(&Asked) -> Asks) -> Vec<Question> {
+    differing_in(page, RIGHT, |run| {
+        for (tag, name) in asks(&run.asked).attributes {
+            let ours = run.ours.attribute(tag, &name);
+            run.attribute_or(tag, &name, ours, rule);
+        }
+    })
+}
+
+/// A wrong rule shows at the names for which it is wrong, and at these alone.
+#[test]
+fn wrong_fallbacks_show_at_their_names() {
+    const NAMES: [&str; 5] = ["bare", "empty", "valued", "absent", "id"];
+    // the byte after a name without a value is passed over
+    let page = b"<p bare, empty='' valued=x id>";
+    let lookup = |name: &str| (0, name.as_bytes().to_vec());
+    let shown = |rule: Rule| {
+        let asks = |_: &Asked| Asks {
+            attributes: NAMES.map(lookup).into(),
+            ..Asks::default()
+        };
+        differing_by(page, rule, asks)
+    };
+    assert_eq!(shown(Held::or), []);
+    let names: [&[&str]; 6] = [
+        &["empty"],
+        &["bare"],
+        &["absent", "id"],
+        &["bare", "absent", "id"],
+        &["empty", "valued"],
+        &["bare", "absent", "id"],
+    ];
+    for (rule, names) in WRONG_FALLBACKS.into_iter().zip(names) {
+        let lookups = names.iter().map(|name| lookup(name));
+        let questions = lookups.map(|(tag, name)| Question::AttributeOr(tag, name));
+        assert_eq!(shown(rule), questions.collect::<Vec<_>>());
+    }
+}
+
+/// On random pages each shows, and the right one never does.
+#[test]
+fn wrong_fallbacks_show_on_random_pages() {
+    const PAGES: u64 = 300;
+    let shown = |rule: Rule| {
+        let differs = |number: &u64| {
+            let mut random = Random::for_input(1, 96, *number);
+            let page = pages::of_markup(&mut random);
+            let questions = differing_by(&page, rule, |asked| Asks::of_page(asked, &mut random));
+            !questions.is_empty()
+        };
+        (0..PAGES).filter(differs).count()
+    };
+    assert_eq!(shown(Held::or), 0);
+    for (number, rule) in WRONG_FALLBACKS.into_iter().enumerate() {
+        assert!(shown(rule) > 0, "{number}");
     }
 }

@@ -90,6 +90,17 @@ pub enum Held {
     Value(Span),
 }
 
+impl Held {
+    /// What the lookup with a fallback hands back: the value's bytes, or the whole fallback where the name is absent or has no
+    /// value.
+    pub fn or<'b>(self, page: &'b [u8], fallback: &'b [u8]) -> &'b [u8] {
+        match self {
+            Held::Absent | Held::Bare => fallback,
+            Held::Value((start, end)) => &page[start..end],
+        }
+    }
+}
+
 /// Which rows a lookup in the scan, or a query, goes over.
 #[derive(Clone, Copy, Debug, PartialEq, Eq)]
 pub enum View {

@@ -2,8 +2,8 @@
 //! profile, and restores them afterwards.
 use super::lists::{body, list_refused};
 use super::{
-    all_refused, filled, numbers_of, one_refused, questions, refused, three_of, Recording, MANNERS,
-    MARK, VIEWS,
+    all_refused, fallbacks, filled, numbers_of, one_refused, questions, refused, three_of,
+    Recording, MANNERS, MARK, VIEWS,
 };
 use crate::model::{
     self, words_for, Asked, Names, Profile, ProfileBytes, Reading, NAMES, NAMES_AT, NAME_BYTES,
@@ -94,13 +94,10 @@ fn of_tag(to: &mut Recording, asked: &Asked, tag: usize) {
     let text = Ok(numbers_of(&asked.text(tag)));
     to.list(([4, tag, 9, 0], b"", "text"), 9, 1, &text);
     for name in [&b"k"[..], b"c"] {
-        let held = three_of(asked.attribute(tag, name, PAPER));
-        to.record(
-            [3, tag, 0, 0],
-            name,
-            "attribute",
-            &[&[0], &held[..]].concat(),
-        );
+        let held = asked.attribute(tag, name, PAPER);
+        let said = [&[0], &three_of(held)[..]].concat();
+        to.record([3, tag, 0, 0], name, "attribute", &said);
+        fallbacks::OUTSIDE.ask(to, asked.page, tag, name, held);
     }
     let selector = b"[k=c],br";
     let count = asked.rows[tag].last - tag;

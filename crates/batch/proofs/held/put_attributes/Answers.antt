@@ -27,7 +27,7 @@ put_held-at-requires c =
     let h = get_or t.handles.now l.h-index 0 in
     let room = room_next t.handles.now l.h-index (three q p ws k) l.invariant (omega arith) in
     let size = three_length q p ws k h in
-    (held_inside (rw c.of.ensures.0 at c.attribute-held.ensures) (tags_short t), omega arith)
+    (held_inside (rw c.of.ensures.0 at c.attribute.ensures.held) (tags_short t), omega arith)
 
 pub loop-h-preserved : goal.loop-h-preserved
 loop-h-preserved c =
@@ -38,7 +38,7 @@ loop-h-preserved c =
     let k = c.args.name.now in
     let l = c.loop-h in
     let h = get_or t.handles.now l.h-index 0 in
-    let held = three_held q p ws k h c.marks-t.ensures c.of.ensures.1 (rw c.of.ensures.0 at c.attribute-held.ensures) in
+    let held = three_held q p ws k h c.marks-t.ensures c.of.ensures.1 (rw c.of.ensures.0 at c.attribute.ensures.held) in
     left_next t.handles.now l.h-index (three q p ws k) l.invariant (omega arith) (rw held c.put_held-at.ensures)
 
 pub returns : goal.returns

@@ -4,4 +4,4 @@ use Rattle.std.proofs.Common.{refl}
 use Rattle.matching.proofs.values.Candidate.check_attribute.Goals as goal
 
 pub returns : goal.returns
-returns g c = λ P f. rw (c.in-Value.ensures, ← c.part.ensures) (f _ _ (says_at g.F.Fn c.fits.ensures refl))
+returns g c = λ P f. rw (c.attribute-value.ensures, c.in-Value.is) (f _ _ (says_at g.F.Fn c.fits.ensures refl))
