@@ -1,11 +1,12 @@
 // The call `inner_texts`: the texts are written as the rows are walked, and for lack of room both buffers are cleared again.
 
-ghost use Rattle.std.specs.Prelude.{false, ◌≤◌, ◌<◌, ltb, length, replicate};
-ghost use Rattle.rules.specs.Profile.{settings_of};
+ghost use Rattle.std.specs.Prelude.{◌≡◌, false, ◌≤◌, ◌<◌, ltb, length, replicate};
+ghost use Rattle.rules.specs.Profile.{page_limit, settings_of};
 ghost use Rattle.rules.specs.Sound.{count_of};
 ghost use Rattle.rules.specs.Text.{inner_text};
 ghost use Rattle.rules.specs.Batch.{texts_answer, texts_buffer, ends_buffer};
 ghost use Rattle.rules.specs.Refusals.{LeavesBoth};
+ghost use Rattle.maxnodes.specs.Bound.{max_nodes};
 ghost use Rattle.batch.specs.Skips.{Covers};
 ghost use Rattle.batch.specs.Texts.{TextsLeft, PutsText};
 
@@ -19,6 +20,13 @@ use rules::Refusal;
 const ROWS: usize = 43691;
 
 const FEW: usize = 4096;
+
+// The same number, by the bound that it is from: a constant has no contract.
+fn most_rows() -> usize
+    ensures { result ≡ max_nodes page_limit }
+{
+    ROWS
+}
 
 // A refusal leaves both buffers all zero. They go by themselves, as the C interface lends them.
 fn refuse_texts(ends: &mut [usize], out: &mut [u8], why: Refusal) -> Result<usize, Refusal>
@@ -43,12 +51,13 @@ fn put_text(s: &Skips, h: usize, out: &mut [u8], at: usize) -> Option<usize>
     // A step passes the rows without text: there is no index to count.
     let mut k = s.next_text(h + 1);
     while k <= last {
-        let text = tag::text_of(d.page, d.row(k));
+        let row = d.row(k);
         k = s.next_text(k + 1);
-        // a row without text costs this test alone
-        if text.is_empty() {
+        // a row without text costs this test alone: its places are not read
+        if !row.is_text() {
             continue;
         }
+        let text = tag::text_of(d.page, row);
         if out.len() - i < text.len() {
             return None;
         }
@@ -134,7 +143,7 @@ fn walk_texts(tags: &Tags, ends: &mut [usize], out: &mut [u8]) -> Result<usize, 
         return skip_texts(tags, &mut skip[..count], 1, ends, out);
     }
     let mut skip = [0u32; ROWS];
-    let step = (count - 1) / ROWS + 1;
+    let step = (count - 1) / most_rows() + 1;
     let filled = (count - 1) / step + 1;
     skip_texts(tags, &mut skip[..filled], step, ends, out)
 }

@@ -21,16 +21,26 @@ fn skip_digits(s: &[u8], at: usize) -> usize
     scan::skip_while(s, at, is_digit)
 }
 
-// The number that 1 to 10 digits say, if it is below 2^32. std reads them; that more than 10 say none, leading zeros or not, is ours.
+// Numbers are below 2^32.
+const LIMIT: u64 = 4294967296;
+
+// The number that 1 to 10 digits say, if it is below 2^32: kept at 2^32 once it is not, so that no product wraps. std's `from_str_radix` takes a
+// text, so the digits would be gone over twice, and reading a number cost more than twice as much.
 fn number_of(digits: &[u8]) -> Option<u32>
     requires { all_ascii_digits digits.now ≡ true }
     ensures { result ≡ number_of digits.now }
 {
+    if digits.is_empty() {
+        return None;
+    }
     if 10 < digits.len() {
         return None;
     }
-    let text = str::from_utf8(digits).ok()?;
-    u32::from_str_radix(text, 10).ok()
+    let mut n = 0;
+    for digit in digits {
+        n = (n * 10 + u64::from(*digit - b'0')).min(LIMIT);
+    }
+    u32::try_from(n).ok()
 }
 
 // The number at the place, with all the digits there, and the place after it.

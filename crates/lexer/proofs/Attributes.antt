@@ -1,9 +1,10 @@
 -- A value, an attribute and a run of attributes: one law for each way through the code, which takes what the code knows there.
 use Rattle.std.proofs.Common.{Option, Some, None}
-use mathlib.Core.Path.{◌≡◌, refl, ap, sym}
+use mathlib.Core.Path.{◌≡◌, refl, ap, sym, ◌∙◌}
 use mathlib.Core.Bool.{Bool, true, false}
 use mathlib.Core.List.{List}
 use Prim.Native.Nat.{ℕ, zero, suc, ◌+◌, ◌-◌, ◌≤◌, ◌<◌}
+use native.Mathlib.Decide.{dec_lt}
 use native.Mathlib.Omega.{arith}
 use lib.ListN.{length}
 use lib.Seq.{take-length}
@@ -11,11 +12,19 @@ use Rattle.rules.specs.Bytes.{is_ident, is_quote, other, is}
 use Rattle.rules.specs.Scan.{pick, skip, here, pass}
 use Rattle.rules.specs.Attributes.{onward, in_value, not_closing, value_at, value_end, next_from, value_of, attribute_at, attribute_next, attributes_end}
 use Rattle.rules.specs.declared.Attribute.{Attribute}
-use Rattle.rules.proofs.Runs.{skip_end, skip_le}
-use Rattle.rules.proofs.Places.{here_false, pass_in, Read, Stood}
+use Rattle.rules.proofs.Runs.{skip_end, skip_le, skip_stop, skip_ends}
+use Rattle.rules.proofs.Places.{here_false, here_in, pass_in, Read, Stood}
 use Rattle.laws.proofs.Cut.{next_scans, next_strict, end_grows, end_cut}
 
 module _ (white : ℕ → Bool) (p : List ℕ) where
+  -- where white ends no more begins
+  skip_twice : (i : ℕ) → skip white p (skip white p i) ≡ skip white p i
+  skip_twice i = go (dec_lt (skip white p i) (length p))
+    where
+      go : Dec (skip white p i < length p) → skip white p (skip white p i) ≡ skip white p i
+      go (yes y) = skip_stop white p (skip white p i) y (sym (here_in white p (skip white p i) y) ∙ skip_ends white p i)
+      go (no n) = skip_end white p (skip white p i) (omega arith)
+
   -- ---- a value from v on, whose `=` stood at eq
   module _ {eq from v : ℕ} (S : Stood 61 p eq from) (at : v ≡ skip white p from) where
     given : (a e : ℕ) → a ≡ pick (here is_quote p v) (pass p v) v → e ≡ value_end white p v → Some (a, e) ≡ value_of white p eq
@@ -101,3 +110,15 @@ module _ (white : ℕ → Bool) (p : List ℕ) where
               within = inside;
               same = rw (z, ← e, y) (enough (suc k) k n inside (omega arith) (omega (arith, further)));
             }
+
+    -- white before the run belongs to it: the run from where the white ends is the same
+    pub attributes_on : attributes_end white (length p) p at ≡ attributes_end white (length p) p i
+    unfolding attributes_end
+    attributes_on = go (length p) refl
+      where
+        there : skip white p at ≡ at
+        there = rw e (skip_twice i)
+
+        go : (k : ℕ) → length p ≡ k → attributes_end white k p at ≡ attributes_end white k p i
+        go zero q = rw e (skip_end white p i (omega arith))
+        go (suc k) q = rw (there, ← e)

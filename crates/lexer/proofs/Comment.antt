@@ -1,6 +1,6 @@
 -- The search for the end of a comment: one law for each way through a turn of the loop.
 use mathlib.Core.Path.{◌≡◌, refl, ap, sym, ◌∙◌}
-use mathlib.Core.Bool.{Bool, true, false, not, ◌&&◌}
+use mathlib.Core.Bool.{Bool, true, false, not, ◌&&◌, and-false}
 use mathlib.Core.List.{List}
 use Prim.Native.Nat.{ℕ, zero, suc, ◌+◌, ◌-◌, ◌≤◌, ◌<◌}
 use native.Mathlib.Omega.{arith}
@@ -9,7 +9,7 @@ use lib.ListN.{length, get_or}
 use borrow.Author.Tests.{lt-ltb, le-ltb, ne_eqb}
 use Rattle.rules.specs.Bytes.{is, other}
 use Rattle.rules.specs.Scan.{pick, here, skip}
-use Rattle.rules.proofs.Places.{here_in}
+use Rattle.rules.proofs.Places.{here_in, here_below}
 use Rattle.rules.proofs.Runs.{skip_end, skip_stop, skip_more}
 use Rattle.rules.specs.Lexer.{comment_end, comment_to}
 use Rattle.laws.proofs.CutItem.{comment_none}
@@ -65,6 +65,16 @@ module _ (p : List ℕ) where
   pub passed : (i : ℕ) → searched i ≡ searched (skip (other 45) p i)
   passed i = passed_within (length p - i) i (omega arith)
 
+  -- a comment that ends at the place itself, as two tests told
+  pub comment_at_once : (start at : ℕ) {b c : Bool} → b ≡ (here (is 45) p at && here (is 45) p (suc at)) → b ≡ true
+      → c ≡ here (is 62) p (at + 2) → c ≡ true → Comment start (at + 3) (at + 3) ≡ comment_to p start (searched at)
+  comment_at_once start at eb b ec c =
+      let below : at + 2 < length p = here_below (is 62) p (at + 2) _ ec c in
+      let next : at + 1 ≡ suc at = omega arith in
+      let both : dashes at ≡ true = ap (λ n. here (is 45) p at && here (is 45) p n) next ∙ sym eb ∙ b in
+      let e : searched at ≡ at + 3 = turn at (omega arith) ∙ rw (both, sym ec ∙ c) in
+      rw (e, ne_eqb (at + 3) 0 (λ z. omega arith))
+
   -- the search from `at` is the search from i, and no place from `top` on has three bytes left
   module _ {top : ℕ} (et : top ≡ length p - 2) (at i : ℕ) (inv : searched at ≡ searched i) where
     abbrev both : Bool
@@ -84,8 +94,21 @@ module _ (p : List ℕ) where
       pub comment_three : both ≡ true → (get_or p (i + 2) 0 ≡ 62 → ⊥) → searched at ≡ searched (i + 3)
       comment_three b g = turn_in ∙ rw (b, ne_eqb (get_or p (i + 2) 0) 62 g)
 
-      pub comment_one : both ≡ false → searched at ≡ searched (skip (other 45) p (i + 1))
-      comment_one b = turn_in ∙ rw b (passed (i + 1))
+      pub comment_one : both ≡ false → searched at ≡ searched (i + 1)
+      comment_one b = turn_in ∙ rw b
+
+      -- without a `-` at the second place no comment ends at either
+      pub comment_two : (get_or p (i + 1) 0 ≡ 45 → ⊥) → searched at ≡ searched (i + 2)
+      comment_two n =
+          let none : is 45 (get_or p (i + 1) 0) ≡ false = ne_eqb (get_or p (i + 1) 0) 45 n in
+          let next : here (is 45) p (i + 1) ≡ false = here_in (is 45) p (i + 1) (omega arith) ∙ none in
+          let two : i + 1 + 1 ≡ i + 2 = omega arith in
+          let one : pick (dashes (i + 1)) (pick (here (is 62) p (i + 1 + 2)) (i + 1 + 3) (searched (i + 1 + 3))) (searched (i + 1 + 1))
+          ≡ searched (i + 1 + 1) = rw next in
+          comment_one (rw (none, and-false)) ∙ turn (i + 1) (omega arith) ∙ one ∙ ap searched two
+
+      pub comment_far : (get_or p (i + 1) 0 ≡ 45 → ⊥) → searched at ≡ searched (skip (other 45) p (i + 2))
+      comment_far n = comment_two n ∙ passed (i + 2)
 
     pub comment_over : (start : ℕ) → top ≤ i → Comment start start (length p) ≡ comment_to p start (searched at)
     comment_over start h = rw (inv, comment_none (length p) p i (omega arith))

@@ -88,44 +88,50 @@ fn skip_attributes(t: &Marks, s: &[u8], from: usize) -> usize
     at
 }
 
-// The same, with the loop entered only where there are attributes.
+// The same, with the loop entered only where there are attributes, at the first: the white before it may be long, and is read once.
 fn parse_attributes(t: &Marks, s: &[u8], from: usize) -> usize
     requires { from ≤ length s.now }
     ensures { let p = s.now in result ≡ attributes_end (white_in t.now) (length p) p from }
 {
     let at = t.skip_whitespaces(s, from);
     if starts_attribute(t, s, at) {
-        return skip_attributes(t, s, from);
+        return skip_attributes(t, s, at);
     }
     at
 }
 
 // ---- what begins with `<!`
 
-// A comment that starts at `start`, searched for its end from `at` on; empty where the page ends first. Never inlined, for the tags' sake:
-// without comments a page was read up to a tenth faster.
+// The search of `skip_comment_with_start`. Never inlined, for the tags' sake: without comments a page was read up to a tenth faster.
 #[inline(never)]
-fn skip_comment_with_start(s: &[u8], start: usize, at: usize) -> Item
+fn search_comment(s: &[u8], start: usize, at: usize) -> Item
     ensures { let p = s.now in result ≡ comment_to p start (comment_end (length p) p at) }
 {
     // Where fewer than three bytes are left no comment ends: one test of the bound for the three, which `is_comment` would make anew.
     let top = s.len().saturating_sub(2);
-    // An index: a step is three bytes, or as far as the next `-`.
+    // An index: a step is up to three bytes, or as far as the next `-`. The search is for where no `-` is near: begun at each single one, it
+    // would take longer than the few bytes to the next.
     let mut i = at;
     while i < top {
-        if (s[i] == b'-') & (s[i + 1] == b'-') {
-            if s[i + 2] == b'>' {
-                let end = i + 3;
-                return Item::Comment {
-                    start,
-                    end,
-                    next: end,
-                };
+        if s[i + 1] == b'-' {
+            if s[i] == b'-' {
+                if s[i + 2] == b'>' {
+                    let end = i + 3;
+                    return Item::Comment {
+                        start,
+                        end,
+                        next: end,
+                    };
+                }
+                // The byte that was no `>` is passed too, as tl does.
+                i += 3;
+            } else {
+                i += 1;
             }
-            // The byte that was no `>` is passed too, as tl does.
-            i += 3;
+        } else if s[i] == b'-' {
+            i += 2;
         } else {
-            i = scan::find(s, i + 1, b'-');
+            i = scan::find(s, i + 2, b'-');
         }
     }
     Item::Comment {
@@ -133,6 +139,24 @@ fn skip_comment_with_start(s: &[u8], start: usize, at: usize) -> Item
         end: start,
         next: s.len(),
     }
+}
+
+// A comment that starts at `start`, searched for its end from `at` on; empty where the page ends first. The end at `at` itself, that of
+// `<!-->`, is seen before the call: with the call such a comment took half as long again.
+fn skip_comment_with_start(s: &[u8], start: usize, at: usize) -> Item
+    ensures { let p = s.now in result ≡ comment_to p start (comment_end (length p) p at) }
+{
+    if constants::is_comment(s, at) {
+        if scan::is_at(s, at + 2, b'>') {
+            let end = at + 3;
+            return Item::Comment {
+                start,
+                end,
+                next: end,
+            };
+        }
+    }
+    search_comment(s, start, at)
 }
 
 // A declaration whose name starts at the place: a document type, or nothing.

@@ -1,16 +1,20 @@
 -- Writing one text after another is writing the two joined: that is what every line's proof goes by.
 use mathlib.Core.Path.{◌≡◌, refl, sym, ap, ◌∙◌}
 use mathlib.Core.Bool.{Bool, true, false}
-use mathlib.Core.List.{List, [], ◌∷◌, ◌++◌}
+use mathlib.Core.List.{List, [], ◌∷◌, ◌++◌, append_assoc}
 use Prim.Native.Nat.{ℕ, suc, ◌+◌, ◌-◌, ◌≤◌, ◌<◌, min}
 use native.Mathlib.Numerals.{add-one}
 use native.Mathlib.Omega.{arith}
+use native.Mathlib.Decide.{dec_le}
+use borrow.Rule.Slice.PartMut.{put_mid}
 use lib.Dec.{leb}
-use lib.ListN.{length, get_or, take, set, length-append}
-use lib.Seq.{sets, length-sets, set_out, take-suc}
+use lib.ListN.{length, get_or, take, drop, set, length-append, take-append-drop}
+use lib.Seq.{sets, sets-eq, length-sets, set_out, take-suc, take_all, length-take-le}
 use borrow.Author.Tests.{leb-true, leb-false}
 use Rattle.std.specs.List.{flat_map}
 use Rattle.std.proofs.lemmas.List.{flat_map_more, take_more}
+use Rattle.std.proofs.lemmas.List.Edits.{paste_all}
+use Rattle.std.proofs.lemmas.Slice.{put_mid-paste}
 use Rattle.lines.specs.Writes.{Writes}
 use Rattle.lines.specs.Writer.{Puts}
 use Rattle.lines.specs.declared.Writer.{Writer}
@@ -25,6 +29,31 @@ sets_append out at [] t = ap (λ (k : ℕ). sets out k t) (omega arith)
 sets_append out at (a ∷ s) t =
     let e : at + length (a ∷ s) ≡ suc at + length s = omega arith in
     ap (λ (k : ℕ). sets (sets out at (a ∷ s)) k t) e ∙ sets_append (set out at a) (suc at) s t
+
+-- what finds no room is left out
+sets_short : (out : List ℕ) (at : ℕ) (t : List ℕ) (k : ℕ) → k ≡ min (length t) (length out - at) → at ≤ length out
+    → sets out at (take k t) ≡ sets out at t
+sets_short out at t k e l = go (dec_le (length t) k)
+  where
+    size : length (take k t) ≡ k
+    size = length-take-le k t (omega arith)
+
+    go : Dec (length t ≤ k) → sets out at (take k t) ≡ sets out at t
+    go (yes h) = ap (sets out at) (take_all k t h)
+    go (no n) =
+        sym (sets_past (sets out at (take k t)) (at + length (take k t)) (drop k t) (omega (arith, size, length-sets out at (take k t))))
+        ∙ sets_append out at (take k t) (drop k t) ∙ ap (sets out at) (take-append-drop k t)
+
+-- a copy of k bytes is the same
+pub copied : (out : List ℕ) (at : ℕ) (t : List ℕ) (k : ℕ) {part : List ℕ} → k ≡ min (length t) (length out - at) → at ≤ length out
+    → part ≡ take k t → put_mid at (at + k - at) out part ≡ sets out at t
+copied out at t k {part} e l p =
+    let size : length (take k t) ≡ k = length-take-le k t (omega arith) in
+    put_mid-paste at (at + k - at) out part (take k t) k p (omega arith) (sym size)
+    ∙ paste_all out at (take k t) k (sym size)
+    ∙ ap (λ (j : ℕ). take at out ++ (take k t ++ drop (at + j) out)) (sym size)
+    ∙ sym (sets-eq (take k t) out at (omega (arith, size)) ∙ append_assoc (take at out) (take k t) (drop (at + length (take k t)) out))
+    ∙ sets_short out at t k e l
 
 -- a place that stays one past the end writes the same as one that goes on
 sets_on : (o : List ℕ) (at k : ℕ) (t : List ℕ) → sets o (at + min k (suc (length o) - at)) t ≡ sets o (at + k) t
@@ -60,6 +89,10 @@ module _ {out : List ℕ} {at : ℕ} {s o : List ℕ} {r : ℕ} (a : Writes out 
 -- nothing more to write
 pub none : (w : Writer) → Puts w [] w
 none w = record { written = record { bytes = refl; place = omega arith }; same = refl }
+
+-- nor from past the end
+pub beyond : (w : Writer) (text : List ℕ) → length w.out.now < w.at → Puts w text w
+beyond w text l = record { written = record { bytes = sym (sets_past w.out.now w.at text (omega arith)); place = omega arith }; same = refl }
 
 pub then : {u v w : Writer} {s t : List ℕ} → Puts u s v → Puts v t w → Puts u (s ++ t) w
 then a b = record { written = then_writes a.written b.written; same = b.same ∙ a.same }

@@ -33,19 +33,30 @@ impl<'a> Writer<'a> {
     pub fn put_byte(&mut self, b: u8)
         ensures { Puts self.old (b ∷ []) self.new }
     {
-        if self.at < self.out.len() {
-            self.out[self.at] = b;
-        }
-        if self.at <= self.out.len() {
-            self.at += 1;
+        let at = self.at;
+        if at < self.out.len() {
+            self.out[at] = b;
+            self.at = at + 1;
+        } else if at == self.out.len() {
+            self.at = at + 1;
         }
     }
 
+    // As far as there is room, in one step: a byte at a time, the place would be stored and read again for each. A text of one byte, as most
+    // numbers are, goes as a byte.
     pub fn put(&mut self, text: &[u8])
         ensures { Puts self.old text.now self.new }
     {
-        for b in text {
+        if let [b] = text {
             self.put_byte(*b);
+            return;
+        }
+        let at = self.at;
+        if at <= self.out.len() {
+            let room = self.out.len() - at;
+            let size = text.len().min(room);
+            copy(&text[..size], &mut self.out[at..at + size]);
+            self.at = at + text.len().min(room + 1);
         }
     }
 
@@ -72,7 +83,7 @@ impl<'a> Writer<'a> {
         self.put_number(n);
     }
 
-    // Each number after a space. `put` is the same loop over bytes: one line, with another call in it.
+    // Each number after a space.
     pub fn put_fields<I: Integer>(&mut self, numbers: &[I])
         ensures { Puts self.old (flat_map (λ n. field (I.text n)) numbers.now) self.new }
     {
@@ -157,6 +168,20 @@ impl<'a> Writer<'a> {
             return table::refuse(self.out, Refusal::BufferTooShort);
         }
         Ok(self.at)
+    }
+}
+
+// A copy. A few bytes go one by one: a call of the C library would take longer.
+fn copy(bytes: &[u8], to: &mut [u8])
+    requires { length to.old ≡ length bytes.now }
+    ensures { to.new ≡ bytes.now }
+{
+    if 8 < bytes.len() {
+        to.copy_from_slice(bytes);
+        return;
+    }
+    for i in 0..bytes.len() {
+        to[i] = bytes[i];
     }
 }
 

@@ -19,6 +19,7 @@ fn following(b: u8) -> u8
 
 // Fills the bytes lent with the page `a<>a<>..`: no page of so many bytes has more nodes. The byte goes from turn to turn, as `densest`
 // says it, where a cycle of the three would count places.
+#[tactic(auto, unfolding(crate::specs::Bound::cycle))]
 pub fn fill(out: &mut [u8])
     ensures { out.new ≡ densest (length out.old) }
 {

@@ -60,7 +60,7 @@ pub(crate) fn is_tl(bytes: &[u8; SIZE]) -> bool
 
 // The longest page that is read: of any bytes, since the test of a profile asks it first, and of a profile by the method.
 #[tactic(auto, unfolding(rules::specs::Profile::limit_of))]
-pub(crate) fn limit(bytes: &[u8; SIZE]) -> usize
+pub fn limit(bytes: &[u8; SIZE]) -> usize
     ensures { result ≡ limit_of bytes.now }
 {
     let [a, b, c, d, ..] = *bytes;

@@ -7,6 +7,6 @@ mod names;
 mod runs;
 mod valid;
 
-pub use bytes::{SIZE, tl};
+pub use bytes::{SIZE, limit, tl};
 pub use names::VoidNames;
-pub use valid::{Profile, check};
+pub use valid::{Profile, check, is_fine};

@@ -67,7 +67,7 @@ fn all_fine(bytes: &[u8; SIZE]) -> bool
 
 // Whether the profile is within its limits. tl's own costs a comparison alone.
 #[tactic(auto, using(rules::proofs::Profile::fine_tl))]
-fn is_fine(bytes: &[u8; SIZE]) -> bool
+pub fn is_fine(bytes: &[u8; SIZE]) -> bool
     ensures { result ≡ profile_fine bytes.now }
 {
     is_tl(bytes) || all_fine(bytes)

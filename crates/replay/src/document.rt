@@ -147,6 +147,8 @@ impl Document<'_> {
         records::put_line(out, b"id", &[number], &answer);
     }
 
+    // Not inlined: the counts that list the closed tags take 64 KiB of stack, which each question would touch.
+    #[inline(never)]
     pub fn class(&self, manner: u32, view: u32, class: &[u8], words: &mut [u32], out: &mut Writer)
         ensures { let f = settings_of self.now.profile.now in
             let p = self.now.page.now in

@@ -119,17 +119,17 @@ fn zeros<const N: usize>() -> [u8; N]
     [0; N]
 }
 
-// The input; a profile; a page; its table, which has a header of 8 words, 1,819 rows of 9, and 5 words after them; the texts of a page; and the
+// The input; a page; its table, which has a header of 8 words, 1,819 rows of 9, and 5 words after them; the texts of a page; words; the
 // longest line, that of texts: 5 bytes for its word, 2 for a refusal's number, 4 for the count, 6 for each of 256 places, 4 for each
-// byte, and a line feed.
+// byte, and a line feed; and a profile. It comes last: made between the others, it had them cleared twice.
 fn main(rt: HostRuntime) -> io::Result<()> {
     let mut input = zeros::<1048576>();
-    let mut profile = profile::tl();
     let mut page = zeros::<PAGE_ROOM>();
     let mut table = [0u32; 16384];
     let mut text = zeros::<PAGE_ROOM>();
     let mut words = [0u32; 4096];
     let mut out = zeros::<263696>();
+    let mut profile = profile::tl();
     let n = input::read_full(&mut rt.stdin(), &mut input)?;
     let mut buffers = Buffers {
         profile: &mut profile,

@@ -6,7 +6,6 @@ ghost use Rattle.rules.specs.Sound.{count_of};
 ghost use Rattle.rules.specs.Text.{inner_text};
 ghost use Rattle.rules.specs.Buffers.{Wrote};
 ghost use Rattle.rules.specs.Answers.{range_of};
-ghost use Rattle.sound.specs.Document.{Places};
 ghost use Rattle.tag.specs.Tag.{node_text};
 
 use crate::buffer::copy;
@@ -25,7 +24,7 @@ pub fn range(h: usize, last: usize) -> Option<(usize, usize)>
 
 // The bytes of a text node; another node has none.
 pub fn text_of<'a>(page: &'a [u8], n: Node) -> &'a [u8]
-    requires { Places page.now n }
+    requires { (n.start ≤ n.end) × (n.end ≤ length page.now) }
     ensures text { result.now ≡ node_text page.now n }
     ensures size { length result.now < 2 ^ 32 }
 {

@@ -18,6 +18,17 @@ fn copy_ends<const K: usize>(bytes: &[u8], to: &mut [u8])
     Simd::<u8, K>::from_slice(&bytes[last..]).copy_to_slice(&mut to[last..]);
 }
 
+// Copies as many bytes as the slices have, by a loop, of which the compiler makes wide steps or a call of `memcpy`. `copy_from_slice` would
+// ask the C library for `memmove`, which nothing else in the archive needs.
+fn copy_each(bytes: &[u8], to: &mut [u8])
+    requires { length to.old ≡ length bytes.now }
+    ensures { to.new ≡ bytes.now }
+{
+    for i in 0..bytes.len() {
+        to[i] = bytes[i];
+    }
+}
+
 // Writes the bytes into out from `at` on, and answers the place after them. Most texts are short: those take two copies of a fixed
 // size, which need neither a loop nor a call of the C library.
 // Buffer and place go as two: a struct of both could not say that the text still fits, which each function asks of its own text.
@@ -33,7 +44,7 @@ pub fn copy(bytes: &[u8], out: &mut [u8], at: usize) -> usize
         2..=3 => copy_ends::<2>(bytes, to),
         4..=7 => copy_ends::<4>(bytes, to),
         8..=16 => copy_ends::<8>(bytes, to),
-        _ => to.copy_from_slice(bytes),
+        _ => copy_each(bytes, to),
     }
     end
 }

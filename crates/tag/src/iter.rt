@@ -9,6 +9,8 @@ use rules::Attribute;
 use scan::Marks;
 
 // The attribute after the white from i on; there is none at the end, nor at a `/` or `>`. Apart from the iterator, whose law speaks of it.
+// Inlined into each loop over attributes: a tag that has none is then asked without a call.
+#[inline(always)]
 pub fn next_attribute(t: &Marks, page: &[u8], i: usize) -> Option<Attribute>
     ensures { result ≡ next_attribute (white_in t.now) page.now i }
 {
@@ -34,6 +36,7 @@ impl<'a> Iterator for Attributes<'a> {
 
     ghost remaining = { item_count left };
 
+    #[inline(always)]
     fn next(&mut self) -> Option<Attribute> {
         let a = next_attribute(self.marks, self.page, self.at)?;
         self.at = a.next;

@@ -82,6 +82,10 @@ store xs d n x e l =
 pub walk_none : (whole out : List ℕ) → Walked whole out out 0 whole
 walk_none whole out = record { found = []; is = refl; number = refl; room = omega arith; buffer = refl }
 
+-- at the start: a and b are where the walk begins and ends
+pub walk_begin : (g : List ℕ → List ℕ) (out : List ℕ) {s e a b : ℕ} → a ≡ s → b ≡ e → Walked (g (from s (e - s))) out out 0 (g (from a (b - a)))
+walk_begin g out {s = s} {e = e} p q = rw (p, q) (walk_none (g (from s (e - s))) out)
+
 module _ {whole out₀ out left : List ℕ} {n : ℕ} (w : Walked whole out₀ out n left) where
   pub walk_size : length out ≡ length out₀
   walk_size = ap length w.buffer ∙ length-append w.found (drop n out₀) ∙ (simp length-drop (omega (arith, w.number, w.room)))
@@ -96,6 +100,10 @@ module _ {whole out₀ out left : List ℕ} {n : ℕ} (w : Walked whole out₀ o
           room = omega (arith, walk_size);
           buffer = ap (λ (d : List ℕ). set d n h) w.buffer ∙ store w.found out₀ n h (sym w.number) (omega (arith, walk_size));
         }
+
+    -- the same of a number x that is h, and a count m that is one more
+    pub walk_next : {x m : ℕ} → x ≡ h → m ≡ n + 1 → n < length out → Walked whole out₀ (set out n x) m rest
+    walk_next e f l = rw (e, f) (walk_on l)
 
     -- there is no room for it
     pub walk_short : {done : List ℕ} → length out ≤ n → done ≡ replicate (length out) 0 → Counts whole out₀ (Err BufferTooShort) done

@@ -40,6 +40,10 @@ unfolding times
 times_none k [] e = refl
 times_none k (x ∷ w) e = absurd (omega arith)
 
+-- where nothing is told of an empty w
+pub told_none : (k w : List ℕ) {n : ℕ} → n ≡ 0 → length w ≡ 0 → n ≡ times k (word w [])
+told_none k w e z = e ∙ times_none k w z
+
 pub one_at_most : (b : Bool) → from_bool b ≤ 1
 one_at_most true = omega arith
 one_at_most false = omega arith

@@ -8,6 +8,7 @@ use Rattle.vdom.proofs.find_all.Given as goal
 
 abbrev pub invariant-loop-h : goal.invariant-loop-h
 invariant-loop-h g l = record {
+  low : l.fn.handles.start ≤ l.rest.start;
   high : l.rest.start ≤ l.rest.end;
   end : l.rest.end ≡ l.fn.handles.end;
   walked : (P : Node → Bool) → ((n : Node) (b : Bool) → goal.F-post g l.test n b → b ≡ P n)

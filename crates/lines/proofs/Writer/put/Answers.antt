@@ -1,7 +1,19 @@
--- `lines::Writer::put` meets its contract. The invariant: the first bytes of the text are written.
+-- `lines::Writer::put` meets its contract: as much of the text as there is room for is copied.
 use native.Mathlib.Omega.{arith}
-use Rattle.lines.proofs.Laws.{then_byte}
+use mathlib.Core.Path.{refl}
+use Rattle.lines.proofs.Laws.{copied, beyond}
 use Rattle.lines.proofs.Writer.put.Goals as goal
 
-pub loop-b-preserved : goal.loop-b-preserved
-loop-b-preserved c = then_byte c.args.text.now c.loop-b.b-index (omega arith) c.loop-b.invariant c.put_byte.ensures
+pub returns-then-at-self : goal.returns-then-at-self
+returns-then-at-self c =
+    let w = c.args.self.now in
+    record {
+      written = record {
+        bytes = copied w.out.now w.at c.args.text.now c.min-size.result (omega arith) (omega arith) c.copy.ensures;
+        place = omega arith;
+      };
+      same = refl;
+    }
+
+pub returns-else-at-self : goal.returns-else-at-self
+returns-else-at-self c = beyond c.args.self.now c.args.text.now (omega arith)
